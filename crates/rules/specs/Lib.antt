@@ -1,0 +1,24 @@
+-- What document 01 means. The modules stand in its order, each idea in one place:
+--     Below       numbers below a bound: lowest, any, all, count, pick, tabulate
+--     Words       numbers in bytes, low byte first
+--     Shape       corners, triangles and edges of a row, by position
+--     Joined      connectedness
+--     Table       rows, neighbours, the triangle, edge and vertex rules
+--     Skin        skin, far edges, one ring, clean, the skin list
+--     First       first match decides
+--     Cases       the five cases
+--     Proposals   answers, and the marks after them
+--     Job         the file, the twelve codes, the lent buffers, the run
+-- Laws holds what follows from the definitions one by one. Reading says each sentence of document 01 in plain relations and proves it
+-- equal in meaning to its definition. Worked holds document 01's jobs with known results, and further ones, as computed theorems.
+pub mod Below
+pub mod Words
+pub mod Shape
+pub mod Joined
+pub mod Table
+pub mod Skin
+pub mod First
+pub mod Cases
+pub mod Proposals
+pub mod Job
+pub mod Worked

@@ -1,0 +1,149 @@
+-- Further jobs: what document 01's own leave open of the meaning, and each line of each of its tables.
+use Prim.Native.Nat.{ℕ, _+_, _*_}
+use mathlib.Core.Path.{_≡_, refl}
+use mathlib.Core.List.{List, [], _∷_, _++_, map}
+use lib.ListN.{take, drop, replicate}
+use Rattle.rules.specs.Job.{Lent}
+use Rattle.rules.specs.Worked.{words, header, job, lend, done, Worked, ran, known, accepts, refuses, keeps, row, three, add, remove, proposal, tableA, tableB, tableC, tableD, marked}
+use Rattle.rules.specs.Worked.Document.{jobA, proposalsA}
+
+-- ---- jobs that catch a wrong meaning which passes all of document 01's own
+
+abbrev pub harderJobs : List Worked
+harderJobs =
+    -- the f = 1 case refuses, the f = 3 case passes, and outer rows count on a remove
+    accepts 8 tableC (marked 15 []) (add 10 ++ add 7 ++ add 13 ++ add 8 ++ add 9 ++ remove 8 ++ remove 10)
+    (done 5 8
+    (0 ∷ 0 ∷ 0 ∷ 0 ∷ 5 ∷ 0 ∷ 5 ∷ [])
+    (marked 15 (7 ∷ 10 ∷ 13 ∷ []))
+    (three 1 5 7 ++ three 1 2 7 ++ three 1 2 5 ++ three 2 3 7 ++ three 2 3 5 ++ three 4 5 7 ++ three 3 4 7
+    ++ three 3 4 5)
+    (row 6 3 2 1 ++ row 7 4 2 0 ++ row 8 5 1 0 ++ row 12 0 5 4 ++ row 13 1 5 3 ++ row 14 2 4 3 ++ row 9 0 8 7
+    ++ row 10 1 8 6 ++ row 11 2 7 6 ++ row 12 6 11 10 ++ row 13 7 11 9 ++ row 14 8 10 9 ++ row 3 9 14 13
+    ++ row 4 10 14 12 ++ row 5 11 13 12))
+    -- two separate rings about vertex 6, though each end lies on two far edges
+    ∷ refuses 8 tableC (marked 15 (6 ∷ 14 ∷ [])) [] 12 6
+    -- a triangle in one row only
+    ∷ refuses 6 (take 16 tableA ++ row 1 2 3 5) (marked 5 []) [] 7 1
+    ∷ []
+
+pub harder-jobs : map ran harderJobs ≡ map known harderJobs
+unfolding ran
+harder-jobs = refl
+
+-- ---- each answer, for add and for remove: 0 at each f, 5 at f = 0, 1 and 2, and 1 to 4
+
+abbrev pub neighboursD : List ℕ
+neighboursD =
+    row 4 3 2 1 ++ row 5 3 2 0 ++ row 6 3 1 0 ++ row 7 2 1 0 ++ row 8 6 5 0 ++ row 9 6 4 1 ++ row 10 5 4 2 ++ row 11 9 8 3 ++ row 12 9 7 4
+    ++ row 13 8 7 5 ++ row 14 12 11 6 ++ row 15 12 10 7 ++ row 16 11 10 8 ++ row 16 15 14 9 ++ row 16 15 13 10 ++ row 16 14 13 11
+    ++ row 15 14 13 12
+
+abbrev pub answerJobs : List Worked
+answerJobs =
+    -- from all finite rows, at f = 0 0 1 4 1 1 2 2 2 3; the add is the fourth
+    accepts 9 tableD (marked 17 (4 ∷ 5 ∷ 6 ∷ 7 ∷ 8 ∷ 9 ∷ 10 ∷ 11 ∷ 12 ∷ 13 ∷ 14 ∷ 15 ∷ 16 ∷ [])) (remove 9 ++ remove 16 ++ remove 15 ++ add 16 ++ remove 7 ++ remove 9 ++ remove 8 ++ remove 4 ++ remove 6
+    ++ remove 5)
+    (done 7 6
+    (5 ∷ 0 ∷ 5 ∷ 0 ∷ 0 ∷ 0 ∷ 0 ∷ 0 ∷ 5 ∷ 0 ∷ [])
+    (marked 17 (6 ∷ 10 ∷ 11 ∷ 12 ∷ 13 ∷ 14 ∷ 15 ∷ 16 ∷ []))
+    (three 1 4 5 ++ three 1 3 5 ++ three 1 3 4 ++ three 3 4 6 ++ three 3 5 6 ++ three 4 5 6)
+    neighboursD)
+    -- from empty marks, at f = 0 0 4 0 1 1 1 2 2 2 3; the remove is the third
+    ∷ accepts 9 tableD (marked 17 []) (add 9 ++ add 14 ++ remove 9 ++ add 16 ++ add 12 ++ add 11 ++ add 14 ++ add 15 ++ add 13 ++ add 10 ++ add 14)
+    (done 8 6
+    (0 ∷ 5 ∷ 0 ∷ 0 ∷ 0 ∷ 0 ∷ 5 ∷ 0 ∷ 0 ∷ 5 ∷ 0 ∷ [])
+    (marked 17 (11 ∷ 12 ∷ 13 ∷ 14 ∷ 15 ∷ 16 ∷ []))
+    (three 3 4 7 ++ three 3 4 6 ++ three 3 5 7 ++ three 3 5 6 ++ three 4 5 6 ++ three 4 5 7)
+    neighboursD)
+    -- answers 1 to 4: of two that apply the first is given
+    ∷ accepts 9 tableD (marked 17 []) (add 17 ++ remove 17 ++ proposal 17 3 ++ proposal 16 0 ++ proposal 16 3 ++ proposal 0 3 ++ add 0 ++ remove 0
+    ++ remove 16 ++ add 16 ++ add 16)
+    (done 1 4
+    (1 ∷ 1 ∷ 1 ∷ 2 ∷ 2 ∷ 2 ∷ 3 ∷ 3 ∷ 4 ∷ 0 ∷ 4 ∷ [])
+    (marked 17 (16 ∷ []))
+    (three 6 7 8 ++ three 5 7 8 ++ three 5 6 8 ++ three 5 6 7)
+    neighboursD)
+    ∷ []
+
+pub answer-jobs : map ran answerJobs ≡ map known answerJobs
+unfolding ran
+answer-jobs = refl
+
+-- ---- each line of the table of codes
+
+-- A's bytes with word i of the header changed
+abbrev pub headerChanged : ℕ → ℕ → List ℕ
+headerChanged i n = take (4 * i) jobA ++ words (n ∷ []) ++ drop (4 * i + 4) jobA
+
+-- buffers of these lengths
+abbrev pub rooms : ℕ → ℕ → ℕ → ℕ → Lent
+rooms a m t w = record { answers = replicate a 9; finalMarks = replicate m 9; triangles = replicate t 9; work = replicate w 9 }
+
+abbrev pub earlyJobs : List Worked
+earlyJobs =
+    -- 1: no bytes at all
+    keeps [] (lend 5 7) 1
+    -- 2: V, N and P below and above their limits
+    ∷ keeps (headerChanged 0 4) (lend 5 7) 2
+    ∷ keeps (headerChanged 0 1025) (lend 5 7) 2
+    ∷ keeps (headerChanged 1 4) (lend 5 7) 2
+    ∷ keeps (headerChanged 1 2049) (lend 5 7) 2
+    ∷ keeps (headerChanged 2 1025) (lend 5 7) 2
+    -- 3: words 3 to 7 one off, and a byte too many
+    ∷ keeps (headerChanged 3 31) (lend 5 7) 3
+    ∷ keeps (headerChanged 4 111) (lend 5 7) 3
+    ∷ keeps (headerChanged 5 118) (lend 5 7) 3
+    ∷ keeps (headerChanged 6 172) (lend 5 7) 3
+    ∷ keeps (headerChanged 7 1) (lend 5 7) 3
+    ∷ keeps (jobA ++ 0 ∷ []) (lend 5 7) 3
+    -- 4: each of the rooms one short
+    ∷ keeps jobA (rooms 6 5 30 20) 4
+    ∷ keeps jobA (rooms 7 4 30 20) 4
+    ∷ keeps jobA (rooms 7 5 29 20) 4
+    ∷ keeps jobA (rooms 7 5 30 19) 4
+    -- of two that apply the first is given
+    ∷ keeps (take 31 (headerChanged 0 4)) (lend 5 7) 1
+    ∷ keeps (headerChanged 0 4 ++ 0 ∷ []) (lend 5 7) 2
+    ∷ keeps (headerChanged 7 1) (rooms 7 5 30 19) 3
+    ∷ []
+
+pub early-jobs : map ran earlyJobs ≡ map known earlyJobs
+unfolding ran
+early-jobs = refl
+
+abbrev pub lateJobs : List Worked
+lateJobs =
+    -- 5: an id not below V; the first of two such rows
+    refuses 5 (take 16 tableA ++ row 1 2 3 5) (marked 5 []) [] 5 4
+    ∷ refuses 5 (row 0 1 2 3 ++ row 0 1 2 4 ++ row 1 0 3 4 ++ row 0 2 3 4 ++ row 1 2 4 3) (marked 5 []) [] 5 2
+    -- 6: a row lower than the one before it
+    ∷ refuses 5 (row 0 1 2 3 ++ row 0 1 3 4 ++ row 0 1 2 4 ++ row 0 2 3 4 ++ row 1 2 3 4) (marked 5 []) [] 6 2
+    -- 7: triangle 1 2 3 in three rows
+    ∷ refuses 6 (tableA ++ row 1 2 3 5) (marked 6 []) [] 7 0
+    -- 8: two copies of A's table sharing only edge 3 4
+    ∷ refuses 8
+    (row 0 1 2 3 ++ row 0 1 2 4 ++ row 0 1 3 4 ++ row 0 2 3 4 ++ row 1 2 3 4 ++ row 3 4 5 6 ++ row 3 4 5 7 ++ row 3 4 6 7 ++ row 3 5 6 7
+    ++ row 4 5 6 7)
+    (marked 10 []) [] 8 2
+    -- 9: two copies sharing only vertex 4
+    ∷ refuses 9
+    (row 0 1 2 3 ++ row 0 1 2 4 ++ row 0 1 3 4 ++ row 0 2 3 4 ++ row 1 2 3 4 ++ row 4 5 6 7 ++ row 4 5 6 8 ++ row 4 5 7 8 ++ row 4 6 7 8
+    ++ row 5 6 7 8)
+    (marked 10 []) [] 9 1
+    -- 10: the first of two such marks
+    ∷ refuses 5 tableA (0 ∷ 2 ∷ 0 ∷ 0 ∷ 255 ∷ []) [] 10 1
+    -- 11: the first of two such rows
+    ∷ refuses 5 tableA (marked 5 (3 ∷ 1 ∷ 4 ∷ [])) [] 11 1
+    -- 12: rows that touch along edge 2 7 alone
+    ∷ refuses 8 tableC (marked 15 (7 ∷ 11 ∷ [])) [] 12 2
+    -- of two that apply the first is given
+    ∷ refuses 5 (row 0 1 2 3 ++ row 0 1 2 4 ++ row 0 1 2 4 ++ row 0 2 3 4 ++ row 1 2 4 3) (marked 5 []) [] 5 4
+    ∷ refuses 6 (take 16 tableA ++ row 0 2 3 4) (marked 5 []) [] 6 4
+    ∷ refuses 6 (take 16 tableA ++ row 1 2 3 5) (2 ∷ 0 ∷ 0 ∷ 0 ∷ 0 ∷ []) [] 7 1
+    ∷ refuses 5 tableA (1 ∷ 2 ∷ 0 ∷ 0 ∷ 0 ∷ []) [] 10 1
+    ∷ []
+
+pub late-jobs : map ran lateJobs ≡ map known lateJobs
+unfolding ran
+late-jobs = refl

@@ -1,0 +1,1 @@
+// No code: the meaning of document 01, its laws and its worked jobs stand in specs/.
