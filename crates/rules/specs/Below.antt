@@ -4,6 +4,7 @@ use Prim.Native.Nat.{ℕ, zero, suc, _+_}
 use mathlib.Core.Bool.{Bool, true, false, _&&_, _||_, cond}
 use mathlib.Core.List.{List, [], _∷_, _++_}
 use mathlib.Core.Option.{Option, some, none}
+use lib.Dec.{eqb}
 
 -- what was found, or else the other
 unfoldable pub orElse : Option ℕ → Option ℕ → Option ℕ
@@ -29,6 +30,10 @@ any (suc n) p = any n p || p n
 unfoldable pub all : ℕ → (ℕ → Bool) → Bool
 all zero p = true
 all (suc n) p = all n p && p n
+
+-- every number below n but c passes
+unfoldable pub allBut : ℕ → (ℕ → Bool) → ℕ → Bool
+allBut n p c = all n (λ k. eqb k c || p k)
 
 -- 1 if the test was passed, 0 if not
 unfoldable pub bit : Bool → ℕ

@@ -21,4 +21,6 @@ pub mod First
 pub mod Cases
 pub mod Proposals
 pub mod Job
+pub mod Laws
+pub mod Reading
 pub mod Worked

@@ -1,11 +1,11 @@
 -- Rows, and the closed table.
 use Prim.Native.Nat.{ℕ, _+_, _-_, _*_, _/_, _%_}
-use mathlib.Core.Bool.{Bool, true, not, _&&_, _||_}
+use mathlib.Core.Bool.{Bool, true, not, _&&_}
 use mathlib.Core.List.{List, [], _∷_}
 use mathlib.Core.Option.{Option·getD}
 use lib.Dec.{eqb, ltb}
 use lib.ListN.{getD}
-use Rattle.rules.specs.Below.{lowest, any, all, count, pick, tabulate}
+use Rattle.rules.specs.Below.{lowest, any, all, allBut, count, pick, tabulate}
 use Rattle.rules.specs.Joined.{connected}
 use Rattle.rules.specs.Shape.{edgeTable, vertices}
 
@@ -45,7 +45,7 @@ outer t r = holds t r 0
 
 -- row s holds the triangle of row r that leaves out corner c
 unfoldable pub side : Table → ℕ → ℕ → ℕ → Bool
-side t r c s = all (t .corners) (λ k. eqb k c || holds t s (t .id r k))
+side t r c s = allBut (t .corners) (λ k. holds t s (t .id r k)) c
 
 -- two rows that hold a triangle are neighbours
 unfoldable pub neighbours : Table → ℕ → ℕ → Bool

@@ -7,7 +7,7 @@ use mathlib.Core.Bool.{cond}
 use mathlib.Core.List.{List, [], _∷_, _++_, flatten}
 use lib.Dec.{leb}
 use lib.ListN.{length, set, replicate}
-use Rattle.rules.specs.Below.{orElse, found, lowest, any, all, bit, sum, count, gather, tabulate, only, pick}
+use Rattle.rules.specs.Below.{orElse, found, lowest, any, all, allBut, bit, sum, count, gather, tabulate, only, pick}
 use Rattle.rules.specs.Words.{word}
 use Rattle.rules.specs.Shape.{facet, edgeTable, vertices}
 use Rattle.rules.specs.Joined.{those, unreached, none-left, connected}
@@ -90,7 +90,7 @@ pub record Worked : Type 0 where
   pub result : Result
 
 unfoldable pub ran : Worked → Result
-unfolding orElse found lowest any all bit sum count gather tabulate only pick word facet edgeTable vertices those unreached none-left connected tableOf rising idsBelow before holds outer side neighbours across neighbourList trianglesShared holdsFace faceJoined facesJoined edgesJoined verticesJoined onSkin different holdsThree farEdge farEnd oneRing skinVertex ringless triangle skinOf skin given firstMatch otherSide free passesBy passes insideIn adds answerTests answer marksAfter answersTo finalMarks taken headerWord headerOf within withinLimits rowBytes rowsAt marksAt proposalsAt wholeLength laidOut section rowsTable proposalIn tableOfJob marksOfJob proposalsOfJob workRoom triangleRoom roomShort written layoutTests roomTests tableTests markTests jobTests accepted refused verdictOn run flatten
+unfolding orElse found lowest any all allBut bit sum count gather tabulate only pick word facet edgeTable vertices those unreached none-left connected tableOf rising idsBelow before holds outer side neighbours across neighbourList trianglesShared holdsFace faceJoined facesJoined edgesJoined verticesJoined onSkin different holdsThree farEdge farEnd oneRing skinVertex ringless triangle skinOf skin given firstMatch otherSide free passesBy passes insideIn adds answerTests answer marksAfter answersTo finalMarks taken headerWord headerOf within withinLimits rowBytes rowsAt marksAt proposalsAt wholeLength laidOut section rowsTable proposalIn tableOfJob marksOfJob proposalsOfJob workRoom triangleRoom roomShort written layoutTests roomTests tableTests markTests jobTests accepted refused verdictOn run flatten
 ran w = run track (w .bytes) (w .lent)
 
 abbrev pub known : Worked → Result

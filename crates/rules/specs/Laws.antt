@@ -1,0 +1,7 @@
+-- What follows from the definitions, one by one.
+pub mod Truth
+pub mod Below
+pub mod Count
+pub mod Lists
+pub mod Joined
+pub mod Shape

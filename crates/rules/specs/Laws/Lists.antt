@@ -1,0 +1,126 @@
+-- Laws of gathered, tabulated and picked lists.
+use mathlib.Core.Path.{_≡_, refl, sym, ap, _∙_, subst, fun-ext}
+use mathlib.Core.Logic.{_⊎_, inl, inr, ⊎-elim}
+use mathlib.Core.Bool.{Bool, true, false, cond}
+use mathlib.Core.List.{List, [], _∷_, _++_, List·Memᴰ, List·Memᴰ·head, List·Memᴰ·tail, List·Memᴰ·not-nil, List·Memᴰ·cases-cons, List·Memᴰ·append-cases, List·Memᴰ·eq-of-singleton, Memᴰ·append-left, Memᴰ·append-right, append-nil}
+use Prim.Native.Nat.{ℕ, zero, suc, _+_, _≤_, _<_}
+use native.Mathlib.Nat.{le-of-suc-le-suc, not-suc-le-zero, eq-or-lt-of-le, le-refl, le-step, lt-irrefl}
+use native.Mathlib.Numerals.{add-one}
+use native.Mathlib.Omega.{arith}
+use lib.ListN.{length, getD, length-append, List·getD-append}
+use lib.Seq.{getD-at}
+use Rattle.rules.specs.Below.{bit, sum, count, gather, tabulate, only, pick}
+use Rattle.rules.specs.Laws.Truth.{true-or-false, not-both}
+
+-- x is among the members of the list
+abbrev pub Among {ℓ} : {A : Type ℓ} → A → List A → Type ℓ
+Among x xs = List·Memᴰ x xs
+
+module _ {ℓ} {A : Type ℓ} where
+  -- ---- gathered lists
+
+  pub gather-more : (n : ℕ) (f : ℕ → List A) → gather (n + 1) f ≡ gather n f ++ f n
+  unfolding gather
+  gather-more n f = rw add-one
+
+  pub gather-same : (n : ℕ) (f g : ℕ → List A) → ((k : ℕ) → k < n → f k ≡ g k) → gather n f ≡ gather n g
+  unfolding gather
+  gather-same zero f g e = refl
+  gather-same (suc n) f g e = rw (gather-same n f g (λ k l. e k (le-step l)), e n (le-refl (suc n)))
+
+  pub gather-length : (n : ℕ) (f : ℕ → List A) → length (gather n f) ≡ sum n (λ k. length (f k))
+  unfolding gather sum
+  gather-length zero f = refl
+  gather-length (suc n) f = length-append (gather n f) (f n) ∙ ap (λ (x : ℕ). x + length (f n)) (gather-length n f)
+
+  pub in-gather : (n : ℕ) (f : ℕ → List A) (x : A) (k : ℕ) → k < n → Among x (f k) → Among x (gather n f)
+  unfolding gather
+  in-gather zero f x k h m = absurd (not-suc-le-zero h)
+  in-gather (suc n) f x k h m =
+      ⊎-elim (λ (e : k ≡ n). Memᴰ·append-right (gather n f) (subst (λ (j : ℕ). Among x (f j)) e m))
+      (λ l. Memᴰ·append-left (f n) (in-gather n f x k l m)) (eq-or-lt-of-le (le-of-suc-le-suc h))
+
+  pub gather-in : (n : ℕ) (f : ℕ → List A) (x : A) → Among x (gather n f) → (k : ℕ) × (k < n) × Among x (f k)
+  unfolding gather
+  gather-in zero f x m = absurd (List·Memᴰ·not-nil m)
+  gather-in (suc n) f x m =
+      ⊎-elim (λ (a : Among x (gather n f)). let (k, l, i) = gather-in n f x a in (k, le-step l, i)) (λ i. (n, le-refl (suc n), i))
+      (List·Memᴰ·append-cases (gather n f) m)
+
+  -- ---- tabulated lists
+
+  pub tabulate-more : (n : ℕ) (f : ℕ → A) → tabulate (n + 1) f ≡ tabulate n f ++ (f n ∷ [])
+  unfolding tabulate
+  tabulate-more n f = gather-more n (λ k. f k ∷ [])
+
+  pub tabulate-same : (n : ℕ) (f g : ℕ → A) → ((k : ℕ) → k < n → f k ≡ g k) → tabulate n f ≡ tabulate n g
+  unfolding tabulate
+  tabulate-same n f g e = gather-same n (λ k. f k ∷ []) (λ k. g k ∷ []) (λ k l. ap {B = List A} (λ x. x ∷ []) (e k l))
+
+  pub tabulate-length : (n : ℕ) (f : ℕ → A) → length (tabulate n f) ≡ n
+  unfolding tabulate gather
+  tabulate-length zero f = refl
+  tabulate-length (suc n) f = length-append (tabulate n f) (f n ∷ []) ∙ ap (λ (x : ℕ). x + 1) (tabulate-length n f) ∙ add-one n
+
+  pub tabulate-at : (n : ℕ) (f : ℕ → A) (d : A) (k : ℕ) → k < n → getD (tabulate n f) k d ≡ f k
+  unfolding tabulate gather
+  tabulate-at zero f d k h = absurd (not-suc-le-zero h)
+  tabulate-at (suc n) f d k h =
+      ⊎-elim (λ (e : k ≡ n). getD-at (tabulate n f) (f n) [] d k (tabulate-length n f ∙ sym e) ∙ ap f (sym e))
+      (λ (l : k < n). List·getD-append (tabulate n f) (f n ∷ []) d k (subst (λ (m : ℕ). k < m) (sym (tabulate-length n f)) l) ∙ tabulate-at n f d k l)
+      (eq-or-lt-of-le (le-of-suc-le-suc h))
+
+  -- ---- one, if a test passes
+
+  pub in-only : (b : Bool) (x : A) → b ≡ true → Among x (only b x)
+  unfolding only
+  in-only true x t = List·Memᴰ·head refl
+  in-only false x t = absurd (not-both t refl)
+
+  pub only-in : (b : Bool) (x y : A) → Among y (only b x) → (b ≡ true) × (y ≡ x)
+  unfolding only
+  only-in true x y m = (refl, List·Memᴰ·eq-of-singleton m)
+  only-in false x y m = absurd (List·Memᴰ·not-nil m)
+
+  pub only-length : (b : Bool) (x : A) → length (only b x) ≡ bit b
+  unfolding only bit
+  only-length true x = refl
+  only-length false x = refl
+
+-- ---- picked lists
+
+pub in-pick : (n : ℕ) (p : ℕ → Bool) (k : ℕ) → k < n → p k ≡ true → Among k (pick n p)
+unfolding pick
+in-pick n p k l t = in-gather n (λ j. only (p j) j) k k l (in-only (p k) k t)
+
+pub pick-in : (n : ℕ) (p : ℕ → Bool) (k : ℕ) → Among k (pick n p) → (k < n) × (p k ≡ true)
+unfolding pick
+pick-in n p k m =
+    let (j, l, i) = gather-in n (λ j. only (p j) j) k m in
+    let (t, e) = only-in (p j) j k i in
+    (subst (λ (x : ℕ). x < n) (sym e) l, ap p e ∙ t)
+
+pub pick-length : (n : ℕ) (p : ℕ → Bool) → length (pick n p) ≡ count n p
+unfolding pick count
+pick-length n p = gather-length n (λ k. only (p k) k) ∙ ap (sum n) (fun-ext (λ k. only-length (p k) k))
+
+-- no member stands twice
+abbrev pub Distinct {ℓ} : {A : Type ℓ} → List A → Type ℓ
+Distinct [] = Unit
+Distinct (x ∷ xs) = (Among x xs → ⊥) × Distinct xs
+
+distinct-more : (xs : List ℕ) (k : ℕ) → Distinct xs → (Among k xs → ⊥) → Distinct (xs ++ (k ∷ []))
+distinct-more [] k d new = (List·Memᴰ·not-nil, tt)
+distinct-more (x ∷ xs) k d new = (
+  λ m. ⊎-elim (d .0) (λ (i : Among x (k ∷ [])). new (List·Memᴰ·head (sym (List·Memᴰ·eq-of-singleton i)))) (List·Memᴰ·append-cases xs m),
+  distinct-more xs k (d .1) (λ m. new (List·Memᴰ·tail m)),
+)
+
+pub pick-distinct : (n : ℕ) (p : ℕ → Bool) → Distinct (pick n p)
+unfolding pick gather only
+pick-distinct zero p = tt
+pick-distinct (suc n) p = go (p n) (pick-distinct n p)
+  where
+    go : (b : Bool) → Distinct (pick n p) → Distinct (pick n p ++ only b n)
+    go true d = distinct-more (pick n p) n d (λ m. lt-irrefl n (pick-in n p n m .0))
+    go false d = rw append-nil d

@@ -1,0 +1,193 @@
+-- Laws of the fixed tables: each is one test that antt computes over the whole table, and a lemma that turns it into the rule at each entry.
+use mathlib.Core.Path.{_≡_, refl, sym, ap, _∙_, subst}
+use mathlib.Core.Logic.{_⊎_, inl, inr, ⊎-elim, _↔_}
+use mathlib.Core.Bool.{Bool, true, false, not, _&&_, _||_, Bool·beq}
+use mathlib.Core.List.{List, [], _∷_, List·Memᴰ·head, List·Memᴰ·tail, List·Memᴰ·not-nil, List·Memᴰ·cases-cons}
+use Prim.Native.Nat.{ℕ, zero, suc, _-_, _≤_, _<_}
+use native.Mathlib.Nat.{lt-trans}
+use lib.Dec.{eqb, ltb}
+use lib.ListN.{getD}
+use borrow.Author.Tests.{eqb-true, eq-eqb, ltb-true, lt-ltb, not-true}
+use Rattle.rules.specs.Below.{all, gather, tabulate, only, pick}
+use Rattle.rules.specs.Shape.{facet, triangleTable, edgeTable, oppositeTable, vertices}
+use Rattle.rules.specs.Laws.Truth.{not-both, and-first, and-second, and-both, or-either, or-first, or-second}
+use Rattle.rules.specs.Laws.Below.{all-each}
+use Rattle.rules.specs.Laws.Lists.{Among, in-gather, gather-in}
+
+-- ---- tests on lists
+
+-- every member passes
+abbrev every {ℓ} : {A : Type ℓ} → (A → Bool) → List A → Bool
+every p [] = true
+every p (x ∷ xs) = p x && every p xs
+
+every-among {ℓ} : {A : Type ℓ} (p : A → Bool) (xs : List A) → every p xs ≡ true → (x : A) → Among x xs → p x ≡ true
+every-among p [] t x m = absurd (List·Memᴰ·not-nil m)
+every-among p (y ∷ xs) t x m =
+    ⊎-elim (λ e. ap p e ∙ and-first (p y) (every p xs) t) (λ i. every-among p xs (and-second (p y) (every p xs) t) x i) (List·Memᴰ·cases-cons m)
+
+-- c is among the corners of the face
+abbrev onFace : ℕ → List ℕ → Bool
+onFace c [] = false
+onFace c (k ∷ face) = eqb c k || onFace c face
+
+on-face : (c : ℕ) (face : List ℕ) → Among c face → onFace c face ≡ true
+on-face c [] m = absurd (List·Memᴰ·not-nil m)
+on-face c (k ∷ face) m =
+    ⊎-elim (λ e. or-first (onFace c face) (eq-eqb c k e)) (λ i. or-second (eqb c k) (on-face c face i)) (List·Memᴰ·cases-cons m)
+
+abbrev sameFace : List ℕ → List ℕ → Bool
+sameFace [] [] = true
+sameFace [] (b ∷ bs) = false
+sameFace (a ∷ as′) [] = false
+sameFace (a ∷ as′) (b ∷ bs) = eqb a b && sameFace as′ bs
+
+same-face : (xs ys : List ℕ) → sameFace xs ys ≡ true → xs ≡ ys
+same-face [] [] t = refl
+same-face [] (b ∷ bs) t = absurd (not-both t refl)
+same-face (a ∷ as′) [] t = absurd (not-both t refl)
+same-face (a ∷ as′) (b ∷ bs) t =
+    let first : a ≡ b = eqb-true a b (and-first (eqb a b) (sameFace as′ bs) t) in
+    let rest : as′ ≡ bs = same-face as′ bs (and-second (eqb a b) (sameFace as′ bs) t) in
+    cc
+
+is-same-face : (xs ys : List ℕ) → xs ≡ ys → sameFace xs ys ≡ true
+is-same-face xs ys e = rw e (self ys)
+  where
+    self : (zs : List ℕ) → sameFace zs zs ≡ true
+    self [] = refl
+    self (z ∷ zs) = and-both (eq-eqb z z refl) (self zs)
+
+abbrev inFaces : List ℕ → List (List ℕ) → Bool
+inFaces face [] = false
+inFaces face (x ∷ xs) = sameFace face x || inFaces face xs
+
+in-faces : (face : List ℕ) (faces : List (List ℕ)) → inFaces face faces ≡ true → Among face faces
+in-faces face [] t = absurd (not-both t refl)
+in-faces face (x ∷ xs) t =
+    ⊎-elim (λ e. List·Memᴰ·head (same-face face x e)) (λ i. List·Memᴰ·tail (in-faces face xs i)) (or-either (sameFace face x) (inFaces face xs) t)
+
+-- ---- triangles
+
+-- at four corners `facet` is document 01's table
+pub facet-table : tabulate 4 (facet 4) ≡ triangleTable
+unfolding tabulate gather facet pick only triangleTable
+facet-table = refl
+
+-- ---- edges
+
+-- an edge is two corners below four, rising
+abbrev isEdge : List ℕ → Bool
+isEdge [] = false
+isEdge (i ∷ []) = false
+isEdge (i ∷ j ∷ []) = ltb i j && ltb j 4
+isEdge (i ∷ j ∷ k ∷ rest) = false
+
+pub table-edge : (face : List ℕ) → Among face edgeTable → (i : ℕ) × (j : ℕ) × (i < j) × (j < 4) × (face ≡ i ∷ j ∷ [])
+unfolding edgeTable
+table-edge face m = ends face (every-among isEdge edgeTable refl face m)
+  where
+    ends : (face : List ℕ) → isEdge face ≡ true → (i : ℕ) × (j : ℕ) × (i < j) × (j < 4) × (face ≡ i ∷ j ∷ [])
+    ends [] t = absurd (not-both t refl)
+    ends (i ∷ []) t = absurd (not-both t refl)
+    ends (i ∷ j ∷ []) t = (i, j, ltb-true i j (and-first (ltb i j) (ltb j 4) t), ltb-true j 4 (and-second (ltb i j) (ltb j 4) t), refl)
+    ends (i ∷ j ∷ k ∷ rest) t = absurd (not-both t refl)
+
+pub edge-in-table : (i j : ℕ) → i < j → j < 4 → Among (i ∷ j ∷ []) edgeTable
+unfolding edgeTable all
+edge-in-table i j l m =
+    in-faces (i ∷ j ∷ []) edgeTable
+    (⊎-elim (λ off. absurd (not-both (lt-ltb i j l) (not-true (ltb i j) off))) (λ t. t) (or-either (not (ltb i j)) (inFaces (i ∷ j ∷ []) edgeTable) tested))
+  where
+    test : ℕ → ℕ → Bool
+    test i j = not (ltb i j) || inFaces (i ∷ j ∷ []) edgeTable
+
+    tested : test i j ≡ true
+    tested = all-each 4 (test i) (all-each 4 (λ i. all 4 (test i)) refl i (lt-trans l m)) j m
+
+-- ---- opposite edges
+
+unfoldable pub edgeAt : ℕ → List ℕ
+edgeAt k = getD edgeTable k []
+
+unfoldable pub oppositeAt : ℕ → List ℕ
+oppositeAt k = getD oppositeTable k []
+
+abbrev apart : List ℕ → List ℕ → Bool
+apart face other = every (λ c. not (onFace c other)) face
+
+oppositeTest : ℕ → Bool
+oppositeTest k = sameFace (oppositeAt k) (edgeAt (5 - k)) && (sameFace (oppositeAt (5 - k)) (edgeAt k) && apart (edgeAt k) (oppositeAt k))
+
+opposites-pass : all 6 oppositeTest ≡ true
+unfolding all oppositeTest edgeAt oppositeAt edgeTable oppositeTable
+opposites-pass = refl
+
+module _ (k : ℕ) (l : k < 6) where
+  later-tests : sameFace (oppositeAt (5 - k)) (edgeAt k) && apart (edgeAt k) (oppositeAt k) ≡ true
+  unfolding oppositeTest
+  later-tests =
+      and-second (sameFace (oppositeAt k) (edgeAt (5 - k))) (sameFace (oppositeAt (5 - k)) (edgeAt k) && apart (edgeAt k) (oppositeAt k))
+      (all-each 6 oppositeTest opposites-pass k l)
+
+  -- the opposite of edge k is edge 5 - k
+  pub opposite-is : oppositeAt k ≡ edgeAt (5 - k)
+  unfolding oppositeTest
+  opposite-is =
+      same-face (oppositeAt k) (edgeAt (5 - k))
+      (and-first (sameFace (oppositeAt k) (edgeAt (5 - k))) (sameFace (oppositeAt (5 - k)) (edgeAt k) && apart (edgeAt k) (oppositeAt k))
+      (all-each 6 oppositeTest opposites-pass k l))
+
+  -- and the opposite of that is edge k
+  pub opposite-of-opposite : oppositeAt (5 - k) ≡ edgeAt k
+  opposite-of-opposite =
+      same-face (oppositeAt (5 - k)) (edgeAt k) (and-first (sameFace (oppositeAt (5 - k)) (edgeAt k)) (apart (edgeAt k) (oppositeAt k)) later-tests)
+
+  -- an edge and its opposite share no corner
+  pub opposite-apart : (c : ℕ) → Among c (edgeAt k) → Among c (oppositeAt k) → ⊥
+  opposite-apart c m n =
+      not-both (on-face c (oppositeAt k) n)
+      (not-true (onFace c (oppositeAt k)) (every-among (λ c. not (onFace c (oppositeAt k))) (edgeAt k)
+      (and-second (sameFace (oppositeAt (5 - k)) (edgeAt k)) (apart (edgeAt k) (oppositeAt k)) later-tests) c m))
+
+-- ---- two triangles of a row
+
+-- the corners of the edge are corners of the triangle that leaves out c
+unfoldable pub inTriangle : ℕ → List ℕ → Bool
+inTriangle c face = every (λ k. onFace k (facet 4 c)) face
+
+neitherTest : ℕ → ℕ → ℕ → Bool
+neitherTest c d k = not (ltb c d) || Bool·beq (not (inTriangle c (edgeAt k)) && not (inTriangle d (edgeAt k))) (sameFace (edgeAt k) (c ∷ d ∷ []))
+
+neither-passes : all 4 (λ c. all 4 (λ d. all 6 (neitherTest c d))) ≡ true
+unfolding all neitherTest edgeAt edgeTable inTriangle facet pick gather only
+neither-passes = refl
+
+-- The edges that are in neither of the triangles that leave out c and d: the one with the corners c and d.
+pub in-neither : (c d k : ℕ) → c < d → d < 4 → k < 6
+    → ((inTriangle c (edgeAt k) ≡ false) × (inTriangle d (edgeAt k) ≡ false)) ↔ (edgeAt k ≡ c ∷ d ∷ [])
+unfolding neitherTest
+in-neither c d k l m n = (
+  λ (p, q). same-face (edgeAt k) (c ∷ d ∷ []) (sym agree ∙ rw (p, q)),
+  λ e. let both = agree ∙ is-same-face (edgeAt k) (c ∷ d ∷ []) e in (
+    not-true (inTriangle c (edgeAt k)) (and-first (not (inTriangle c (edgeAt k))) (not (inTriangle d (edgeAt k))) both),
+    not-true (inTriangle d (edgeAt k)) (and-second (not (inTriangle c (edgeAt k))) (not (inTriangle d (edgeAt k))) both),
+  ),
+)
+  where
+    passed : neitherTest c d k ≡ true
+    passed =
+        all-each 6 (neitherTest c d)
+        (all-each 4 (λ d. all 6 (neitherTest c d)) (all-each 4 (λ c. all 4 (λ d. all 6 (neitherTest c d))) neither-passes c (lt-trans l m)) d m) k n
+
+    beq-same : (a b : Bool) → Bool·beq a b ≡ true → a ≡ b
+    beq-same true true e = refl
+    beq-same true false e = sym e
+    beq-same false true e = e
+    beq-same false false e = refl
+
+    agree : (not (inTriangle c (edgeAt k)) && not (inTriangle d (edgeAt k))) ≡ sameFace (edgeAt k) (c ∷ d ∷ [])
+    agree =
+        ⊎-elim (λ off. absurd (not-both (lt-ltb c d l) (not-true (ltb c d) off)))
+        (beq-same (not (inTriangle c (edgeAt k)) && not (inTriangle d (edgeAt k))) (sameFace (edgeAt k) (c ∷ d ∷ [])))
+        (or-either (not (ltb c d)) (Bool·beq (not (inTriangle c (edgeAt k)) && not (inTriangle d (edgeAt k))) (sameFace (edgeAt k) (c ∷ d ∷ []))) passed)

@@ -1,0 +1,4 @@
+-- Document 01 in plain relations, each proved equal in meaning to the definition that computes it.
+pub mod Rows
+pub mod Neighbours
+pub mod Closed
