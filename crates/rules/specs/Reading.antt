@@ -2,3 +2,5 @@
 pub mod Rows
 pub mod Neighbours
 pub mod Closed
+pub mod Skin
+pub mod Ring

@@ -1,7 +1,7 @@
 -- Laws of sums and counts: exactly one, exactly two, and counting in two ways.
 use mathlib.Core.Path.{_≡_, refl, sym, ap, ap₂, _∙_, subst}
 use mathlib.Core.Logic.{_⊎_, inl, inr, ⊎-elim, _≢_}
-use mathlib.Core.Bool.{Bool, true, false, not, _&&_, _||_, cond, true≢false}
+use mathlib.Core.Bool.{Bool, true, false, not, _&&_, _||_, cond, Bool·beq, xor, true≢false}
 use Prim.Native.Nat.{ℕ, zero, suc, _+_, _*_, _≤_, _<_, zero-le}
 use native.Mathlib.Nat.{le-of-suc-le-suc, not-suc-le-zero, eq-or-lt-of-le, le-refl, le-step, lt-irrefl, suc-inj, add-zero, zero-add, add-comm, add-assoc, add-le-add, mul-suc, zero-mul, suc-mul}
 use native.Mathlib.Numerals.{add-one}
@@ -129,6 +129,9 @@ pub record ExactlyOne (n : ℕ) (P : ℕ → Type 0) : Type 0 where
   pub is : P one
   pub only : (k : ℕ) → k < n → P k → k ≡ one
 
+pub one-map : {n : ℕ} {P Q : ℕ → Type 0} → ((k : ℕ) → P k → Q k) → ((k : ℕ) → Q k → P k) → ExactlyOne n P → ExactlyOne n Q
+one-map forth back x = record { one = x .one; below = x .below; is = forth (x .one) (x .is); only = λ k l q. x .only k l (back k q) }
+
 pub count-one : (n : ℕ) (p : ℕ → Bool) → count n p ≡ 1 → ExactlyOne n (λ k. p k ≡ true)
 count-one n p e =
     let (k, l, t) = count-some n p (omega arith) in
@@ -234,6 +237,41 @@ two-count n p x =
     })
     in
     omega (arith, count-without n p (x .one) (x .one-below) (x .one-is))
+
+-- of two, one is on one side and one on the other exactly if just one of them is on the first side
+pub one-side : (n : ℕ) (on inside : ℕ → Bool) (k : ℕ) → k < n → on k ≡ true → (o : TheOther n (λ j. on j ≡ true) k)
+    → eqb (count n (λ j. inside j && on j)) 1 ≡ xor (inside k) (inside (o .other))
+unfolding xor
+one-side n on inside k l is o = go (inside k) (inside (o .other)) refl refl
+  where
+    both : ℕ → Bool
+    both j = inside j && on j
+
+    mine : inside k ≡ true → both k ≡ true
+    mine e = and-both e is
+
+    its : inside (o .other) ≡ true → both (o .other) ≡ true
+    its e = and-both e (o .is)
+
+    only-mine : inside (o .other) ≡ false → (j : ℕ) → j < n → both j ≡ true → j ≡ k
+    only-mine f j m q =
+        ⊎-elim (λ e. e) (λ ne. absurd (not-both (and-first (inside j) (on j) q) (ap inside (o .only j m (and-second (inside j) (on j) q) ne) ∙ f))) (same-or-not j k)
+
+    only-its : inside k ≡ false → (j : ℕ) → j < n → both j ≡ true → j ≡ o .other
+    only-its f j m q = o .only j m (and-second (inside j) (on j) q) (λ (e : j ≡ k). not-both (and-first (inside j) (on j) q) (ap inside e ∙ f))
+
+    go : (a b : Bool) → inside k ≡ a → inside (o .other) ≡ b → eqb (count n both) 1 ≡ not (Bool·beq a b)
+    go true true p q = rw (two-count n both (two-of-other l (mine p) (record {
+      other = o .other;
+      below = o .below;
+      is = its q;
+      differs = o .differs;
+      only = λ j m r ne. o .only j m (and-second (inside j) (on j) r) ne;
+    })))
+    go true false p q = rw (one-count n both (record { one = k; below = l; is = mine p; only = only-mine q }))
+    go false true p q = rw (one-count n both (record { one = o .other; below = o .below; is = its q; only = only-its p }))
+    go false false p q =
+        rw (none-count n both (λ j m. is-false (both j) (λ r. not-both (and-first (inside j) (on j) r) (ap inside (only-its p j m r) ∙ q))))
 
 -- ---- those that pass and those that do not
 

@@ -150,6 +150,10 @@ module _ (next : ℕ → ℕ → Bool) where
       let (todoApart, restApart) = left-apart turns todo rest enough y later in
       ⊎-elim (λ i. absurd (not-both n (todoApart x i))) (λ i. restApart x i n) member
 
+-- a number below n that passes
+abbrev pub Picked : ℕ → (ℕ → Bool) → ℕ → Type 0
+Picked n p k = (k < n) × (p k ≡ true)
+
 -- ---- connected: any two members are joined by a chain of members
 
 none-left-in : (xs : List ℕ) → none-left xs ≡ true → (y : ℕ) → Among y xs → ⊥
@@ -197,10 +201,6 @@ module _ (next : ℕ → ℕ → Bool) where
       toParts z m = ⊎-elim (λ e. inl (List·Memᴰ·head e)) inr (List·Memᴰ·cases-cons m)
 
   -- ---- the same of the numbers below n that pass
-
-  -- a number below n that passes
-  abbrev pub Picked : ℕ → (ℕ → Bool) → ℕ → Type 0
-  Picked n p k = (k < n) × (p k ≡ true)
 
   pub picked-chain : (n : ℕ) (p : ℕ → Bool) → ((x y : ℕ) → Picked n p x → Picked n p y → next x y ≡ true → next y x ≡ true)
       → connected next (pick n p) ≡ true → (x y : ℕ) → Picked n p x → Picked n p y → Chain (Picked n p) (λ a b. next a b ≡ true) x y

@@ -1,17 +1,18 @@
 -- Laws of the fixed tables: each is one test that antt computes over the whole table, and a lemma that turns it into the rule at each entry.
 use mathlib.Core.Path.{_≡_, refl, sym, ap, _∙_, subst}
-use mathlib.Core.Logic.{_⊎_, inl, inr, ⊎-elim, _↔_}
+use mathlib.Core.Logic.{_⊎_, inl, inr, ⊎-elim, _↔_, _≢_}
 use mathlib.Core.Bool.{Bool, true, false, not, _&&_, _||_, Bool·beq}
 use mathlib.Core.List.{List, [], _∷_, List·Memᴰ·head, List·Memᴰ·tail, List·Memᴰ·not-nil, List·Memᴰ·cases-cons}
 use Prim.Native.Nat.{ℕ, zero, suc, _-_, _≤_, _<_}
 use native.Mathlib.Nat.{lt-trans}
 use lib.Dec.{eqb, ltb}
 use lib.ListN.{getD}
-use borrow.Author.Tests.{eqb-true, eq-eqb, ltb-true, lt-ltb, not-true}
-use Rattle.rules.specs.Below.{all, gather, tabulate, only, pick}
+use borrow.Author.Tests.{eqb-true, eq-eqb, eqb-false, ne-eqb, ltb-true, lt-ltb, not-true}
+use Rattle.rules.specs.Below.{all, bit, sum, count, gather, tabulate, only, pick}
 use Rattle.rules.specs.Shape.{facet, triangleTable, edgeTable, oppositeTable, vertices}
-use Rattle.rules.specs.Laws.Truth.{not-both, and-first, and-second, and-both, or-either, or-first, or-second}
+use Rattle.rules.specs.Laws.Truth.{not-both, and-first, and-second, and-both, or-either, or-first, or-second, or-no-first, or-no-second}
 use Rattle.rules.specs.Laws.Below.{all-each}
+use Rattle.rules.specs.Laws.Count.{ExactlyOne, ExactlyTwo, one-map, two-map, count-one, count-two}
 use Rattle.rules.specs.Laws.Lists.{Among, in-gather, gather-in}
 
 -- ---- tests on lists
@@ -191,3 +192,66 @@ in-neither c d k l m n = (
         ⊎-elim (λ off. absurd (not-both (lt-ltb c d l) (not-true (ltb c d) off)))
         (beq-same (not (inTriangle c (edgeAt k)) && not (inTriangle d (edgeAt k))) (sameFace (edgeAt k) (c ∷ d ∷ [])))
         (or-either (not (ltb c d)) (Bool·beq (not (inTriangle c (edgeAt k)) && not (inTriangle d (edgeAt k))) (sameFace (edgeAt k) (c ∷ d ∷ []))) passed)
+
+-- ---- the corners that are left
+
+-- m is none of i, j and k
+abbrev otherThan : ℕ → ℕ → ℕ → ℕ → Bool
+otherThan i j k m = not (eqb m i || eqb m j || eqb m k)
+
+fourthTest : ℕ → ℕ → ℕ → Bool
+fourthTest i j k = eqb i j || (eqb i k || (eqb j k || eqb (count 4 (otherThan i j k)) 1))
+
+fourth-passes : all 4 (λ i. all 4 (λ j. all 4 (fourthTest i j))) ≡ true
+unfolding all fourthTest count sum bit
+fourth-passes = refl
+
+-- three different corners leave one
+pub fourth-corner : (i j k : ℕ) → i < 4 → j < 4 → k < 4 → i ≢ j → i ≢ k → j ≢ k → ExactlyOne 4 (λ m. (m ≢ i) × (m ≢ j) × (m ≢ k))
+unfolding fourthTest
+fourth-corner i j k li lj lk ij ik jk = one-map forth back (count-one 4 (otherThan i j k) counted)
+  where
+    passed : fourthTest i j k ≡ true
+    passed =
+        all-each 4 (fourthTest i j) (all-each 4 (λ j. all 4 (fourthTest i j)) (all-each 4 (λ i. all 4 (λ j. all 4 (fourthTest i j))) fourth-passes i li) j lj) k lk
+
+    counted : count 4 (otherThan i j k) ≡ 1
+    counted = eqb-true (count 4 (otherThan i j k)) 1 (rw (ne-eqb i j ij, ne-eqb i k ik, ne-eqb j k jk) at passed)
+
+    forth : (m : ℕ) → otherThan i j k m ≡ true → (m ≢ i) × (m ≢ j) × (m ≢ k)
+    forth m q =
+        let none = not-true (eqb m i || eqb m j || eqb m k) q in
+        let two = or-no-first (eqb m i || eqb m j) (eqb m k) none in (
+          eqb-false m i (or-no-first (eqb m i) (eqb m j) two),
+          eqb-false m j (or-no-second (eqb m i) (eqb m j) two),
+          eqb-false m k (or-no-second (eqb m i || eqb m j) (eqb m k) none),
+        )
+
+    back : (m : ℕ) → (m ≢ i) × (m ≢ j) × (m ≢ k) → otherThan i j k m ≡ true
+    back m (a, b, c) = rw (ne-eqb m i a, ne-eqb m j b, ne-eqb m k c)
+
+othersTest : ℕ → ℕ → Bool
+othersTest c k = eqb c k || eqb (count 4 (otherThan c k k)) 2
+
+others-pass : all 4 (λ c. all 4 (othersTest c)) ≡ true
+unfolding all othersTest count sum bit
+others-pass = refl
+
+-- two different corners leave two
+pub two-others : (c k : ℕ) → c < 4 → k < 4 → c ≢ k → ExactlyTwo 4 (λ m. (m ≢ c) × (m ≢ k))
+unfolding othersTest
+two-others c k lc lk ne = two-map forth back (count-two 4 (otherThan c k k) counted)
+  where
+    passed : othersTest c k ≡ true
+    passed = all-each 4 (othersTest c) (all-each 4 (λ c. all 4 (othersTest c)) others-pass c lc) k lk
+
+    counted : count 4 (otherThan c k k) ≡ 2
+    counted = eqb-true (count 4 (otherThan c k k)) 2 (rw (ne-eqb c k ne) at passed)
+
+    forth : (m : ℕ) → otherThan c k k m ≡ true → (m ≢ c) × (m ≢ k)
+    forth m q =
+        let none = not-true (eqb m c || eqb m k || eqb m k) q in
+        (eqb-false m c (or-no-first (eqb m c) (eqb m k) (or-no-first (eqb m c || eqb m k) (eqb m k) none)), eqb-false m k (or-no-second (eqb m c || eqb m k) (eqb m k) none))
+
+    back : (m : ℕ) → (m ≢ c) × (m ≢ k) → otherThan c k k m ≡ true
+    back m (a, b) = rw (ne-eqb m c a, ne-eqb m k b)

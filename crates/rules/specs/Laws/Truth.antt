@@ -70,3 +70,6 @@ same-or-not m n = go (true-or-false (eqb m n))
     go : (eqb m n ≡ true) ⊎ (eqb m n ≡ false) → (m ≡ n) ⊎ (m ≡ n → ⊥)
     go (inl t) = inl (eqb-true m n t)
     go (inr f) = inr (eqb-false m n f)
+
+pub eqb-back : (a b : ℕ) → eqb a b ≡ eqb b a
+eqb-back a b = same-test (eqb a b) (eqb b a) (λ e. eq-eqb b a (sym (eqb-true a b e))) (λ e. eq-eqb a b (sym (eqb-true b a e)))

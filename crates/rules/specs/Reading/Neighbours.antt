@@ -8,13 +8,10 @@ use lib.Dec.{eqb}
 use borrow.Author.Tests.{eqb-true, eq-eqb, eqb-false, ne-eqb, not-true}
 use Rattle.rules.specs.Below.{any, allBut, bit, sum, count}
 use Rattle.rules.specs.Table.{Table, holds, side, neighbours}
-use Rattle.rules.specs.Laws.Truth.{same-test, is-false, and-first, and-second, and-both}
+use Rattle.rules.specs.Laws.Truth.{eqb-back, is-false, and-first, and-second, and-both}
 use Rattle.rules.specs.Laws.Below.{any-here, any-some}
 use Rattle.rules.specs.Laws.Count.{sum-same, sum-swap, count-same, count-some, count-without, any-count, all-but-each, each-all-but, leavable, all-but-count}
 use Rattle.rules.specs.Reading.Rows.{Rising, one-corner, Holds, holds-reads}
-
-eqb-back : (a b : ℕ) → eqb a b ≡ eqb b a
-eqb-back a b = same-test (eqb a b) (eqb b a) (λ e. eq-eqb b a (sym (eqb-true a b e))) (λ e. eq-eqb a b (sym (eqb-true b a e)))
 
 module _ (t : Table) where
   -- ---- a triangle in another row
