@@ -5,3 +5,4 @@ pub mod Count
 pub mod Lists
 pub mod Joined
 pub mod Shape
+pub mod First

@@ -4,3 +4,4 @@ pub mod Neighbours
 pub mod Closed
 pub mod Skin
 pub mod Ring
+pub mod Answers

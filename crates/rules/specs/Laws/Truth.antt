@@ -1,10 +1,10 @@
 -- Tests and what they say. That a test passes is `b ≡ true`.
-use mathlib.Core.Path.{_≡_, refl, sym, _∙_}
-use mathlib.Core.Logic.{_⊎_, inl, inr}
+use mathlib.Core.Path.{_≡_, refl, sym, ap, _∙_}
+use mathlib.Core.Logic.{_⊎_, inl, inr, ⊎-elim, _↔_}
 use mathlib.Core.Bool.{Bool, true, false, not, _&&_, _||_, true≢false}
-use Prim.Native.Nat.{ℕ}
-use lib.Dec.{eqb}
-use borrow.Author.Tests.{eqb-true, eq-eqb, eqb-false, ne-eqb}
+use Prim.Native.Nat.{ℕ, _≤_, _<_}
+use lib.Dec.{eqb, ltb, leb}
+use borrow.Author.Tests.{eqb-true, eq-eqb, eqb-false, ltb-true, lt-ltb, leb-true, le-leb, not-true}
 
 pub true-or-false : (b : Bool) → (b ≡ true) ⊎ (b ≡ false)
 true-or-false true = inl refl
@@ -73,3 +73,23 @@ same-or-not m n = go (true-or-false (eqb m n))
 
 pub eqb-back : (a b : ℕ) → eqb a b ≡ eqb b a
 eqb-back a b = same-test (eqb a b) (eqb b a) (λ e. eq-eqb b a (sym (eqb-true a b e))) (λ e. eq-eqb a b (sym (eqb-true b a e)))
+
+-- ---- a test and its negation, read
+
+pub not-reads : (b : Bool) {P : Type 0} → (b ≡ true) ↔ P → (not b ≡ true) ↔ (P → ⊥)
+not-reads b (forth, back) = (λ e p. not-both (back p) (not-true b e), λ off. ap not (is-false b (λ t. off (forth t))))
+
+pub and-reads : (a b : Bool) {P Q : Type 0} → (a ≡ true) ↔ P → (b ≡ true) ↔ Q → (a && b ≡ true) ↔ (P × Q)
+and-reads a b (f, g) (h, k) = (λ e. (f (and-first a b e), h (and-second a b e)), λ (p, q). and-both (g p) (k q))
+
+pub or-reads : (a b : Bool) {P Q : Type 0} → (a ≡ true) ↔ P → (b ≡ true) ↔ Q → (a || b ≡ true) ↔ (P ⊎ Q)
+or-reads a b (f, g) (h, k) = (λ e. ⊎-elim (λ t. inl (f t)) (λ t. inr (h t)) (or-either a b e), λ x. ⊎-elim (λ p. or-first b (g p)) (λ q. or-second a (k q)) x)
+
+pub eqb-reads : (m n : ℕ) → (eqb m n ≡ true) ↔ (m ≡ n)
+eqb-reads m n = (eqb-true m n, eq-eqb m n)
+
+pub ltb-reads : (m n : ℕ) → (ltb m n ≡ true) ↔ (m < n)
+ltb-reads m n = (ltb-true m n, lt-ltb m n)
+
+pub leb-reads : (m n : ℕ) → (leb m n ≡ true) ↔ (m ≤ n)
+leb-reads m n = (leb-true m n, le-leb m n)

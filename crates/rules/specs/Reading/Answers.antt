@@ -1,0 +1,228 @@
+-- The five cases and the answers: each answer is given exactly if it applies and none before it does.
+use mathlib.Core.Path.{_≡_, refl, sym, ap, _∙_, subst}
+use mathlib.Core.Logic.{_⊎_, inl, inr, ⊎-elim, _↔_, Iff·trans, _≢_}
+use mathlib.Core.Bool.{Bool, true, false, not, _&&_, _||_, cond}
+use mathlib.Core.Option.{Option, some, none}
+use mathlib.Core.List.{List, [], _∷_, List·Memᴰ·head, List·Memᴰ·eq-of-singleton}
+use Prim.Native.Nat.{ℕ, zero, suc, _+_, _≤_, _<_}
+use native.Mathlib.Nat.{zero-lt-suc}
+use native.Mathlib.Omega.{arith}
+use lib.Dec.{eqb, ltb}
+use lib.ListN.{length, getD}
+use borrow.Author.Tests.{eqb-true, eq-eqb, eqb-false, ne-eqb, ltb-true, lt-ltb, ltb-false, le-ltb, not-true, not-false}
+use Rattle.rules.specs.Below.{found, any, all, count, pick}
+use Rattle.rules.specs.Table.{Table, holds, outer, holdsFace}
+use Rattle.rules.specs.Skin.{onSkin}
+use Rattle.rules.specs.First.{Test, given, Verdict, firstMatch}
+use Rattle.rules.specs.Cases.{otherSide, free, passesBy, passes}
+use Rattle.rules.specs.Proposals.{Proposal, insideIn, adds, answerTests, answer}
+use Rattle.rules.specs.Laws.Truth.{true-or-false, not-both, is-false, is-true, and-first, and-second, and-both, or-either, or-first, or-second, or-no-first, or-no-second, same-or-not}
+use Rattle.rules.specs.Laws.Below.{any-here, any-some, all-each, each-all, all-fails, fails-all}
+use Rattle.rules.specs.Laws.Count.{count-zero, none-count, ExactlyOne, ExactlyTwo, count-one, one-count, count-two, two-count}
+use Rattle.rules.specs.Laws.Lists.{Among, in-pick, pick-in}
+use Rattle.rules.specs.Laws.First.{Reads, FirstOf, conditionAt, code-reads, none-reads, given-reads, given-none}
+use Rattle.rules.specs.Reading.Rows.{Holds, holds-reads}
+use Rattle.rules.specs.Reading.Closed.{HoldsFace, holds-face-reads}
+
+-- ---- the five cases
+
+-- row s is on the other side: for an add it is inside, for a remove it is outside
+abbrev pub OtherSide : Bool → (ℕ → Bool) → ℕ → Type 0
+OtherSide adding inside s = inside s ≡ adding
+
+pub other-side-reads : (adding : Bool) (inside : ℕ → Bool) (s : ℕ) → (otherSide adding inside s ≡ true) ↔ OtherSide adding inside s
+unfolding otherSide
+other-side-reads true inside s = (λ e. e, λ e. e)
+other-side-reads false inside s = (λ e. not-true (inside s) e, λ e. ap not e)
+
+module _ (t : Table) (inside : ℕ → Bool) (adding : Bool) (r : ℕ) where
+  -- some row of the other side
+  abbrev pub SomeOther : (ℕ → Type 0) → Type 0
+  SomeOther P = (s : ℕ) × (s < t .rows) × OtherSide adding inside s × P s
+
+  -- the triangle that leaves out corner c is on the skin
+  abbrev pub Skin : ℕ → Type 0
+  Skin c = onSkin t inside r c ≡ true
+
+  -- f = 0: a row of the other side holds one of the vertices
+  abbrev pub Refuses0 : Type 0
+  Refuses0 = ((c : ℕ) → c < t .corners → Skin c → ⊥) × ((c : ℕ) × (c < t .corners) × SomeOther (λ s. Holds t s (t .id r c)))
+
+  -- f = 1: it holds the vertex opposite the skin triangle
+  abbrev pub Refuses1 : Type 0
+  Refuses1 = (x : ExactlyOne (t .corners) Skin) × SomeOther (λ s. Holds t s (t .id r (x .one)))
+
+  -- f = 2: it holds the edge of the two left-out corners, which is in neither skin triangle (`Laws.Shape.in-neither`)
+  abbrev pub Refuses2 : Type 0
+  Refuses2 = (x : ExactlyTwo (t .corners) Skin) × SomeOther (λ s. Holds t s (t .id r (x .one)) × Holds t s (t .id r (x .two)))
+
+  abbrev pub Refuses : Type 0
+  Refuses = Refuses0 ⊎ (Refuses1 ⊎ Refuses2)
+
+  pub free-reads : (face : List ℕ) → (free t (otherSide adding inside) r face ≡ false) ↔ SomeOther (HoldsFace t r face)
+  unfolding free
+  free-reads face = (
+    λ e.
+        let (s, l, q) = any-some (t .rows) here (not-false (any (t .rows) here) e) in (
+          s,
+          l,
+          other-side-reads adding inside s .0 (and-first (otherSide adding inside s) (holdsFace t r face s) q),
+          holds-face-reads t r face s .0 (and-second (otherSide adding inside s) (holdsFace t r face s) q),
+        ),
+    λ (s, l, o, h). ap not (any-here (t .rows) here s l (and-both (other-side-reads adding inside s .1 o) (holds-face-reads t r face s .1 h))),
+  )
+    where
+      here : ℕ → Bool
+      here s = otherSide adding inside s && holdsFace t r face s
+
+  -- ---- by f, the number of skin triangles
+
+  f : ℕ
+  f = count (t .corners) (onSkin t inside r)
+
+  -- the left-out corners of the skin triangles
+  leftOut : List ℕ
+  leftOut = pick (t .corners) (onSkin t inside r)
+
+  holds-left-out : (s : ℕ) → HoldsFace t r leftOut s ↔ ((c : ℕ) → c < t .corners → Skin c → Holds t s (t .id r c))
+  unfolding leftOut
+  holds-left-out s = (
+    λ h c l e. h c (in-pick (t .corners) (onSkin t inside r) c l e),
+    λ h c m. let (l, e) = pick-in (t .corners) (onSkin t inside r) c m in h c l e,
+  )
+
+  case0 : f ≡ 0 → (passes t inside adding r ≡ false) ↔ Refuses0
+  unfolding passes passesBy f
+  case0 z = (
+    λ e.
+        let (c, l, q) = all-fails (t .corners) (λ c. free t (otherSide adding inside) r (c ∷ [])) (sym value ∙ e) in
+        let (s, ls, o, h) = free-reads (c ∷ []) .0 q in
+        (λ c l q. not-both q (count-zero (t .corners) (onSkin t inside r) z c l), (c, l, (s, ls, o, h c (List·Memᴰ·head refl)))),
+    λ (_, (c, l, (s, ls, o, h))).
+        value ∙ fails-all (t .corners) (λ c. free t (otherSide adding inside) r (c ∷ [])) c l
+        (free-reads (c ∷ []) .1 (s, ls, o, λ k m. let e : k ≡ c = List·Memᴰ·eq-of-singleton m in rw e h)),
+  )
+    where
+      value : passes t inside adding r ≡ all (t .corners) (λ c. free t (otherSide adding inside) r (c ∷ []))
+      value = rw z
+
+  case1 : f ≡ 1 → (passes t inside adding r ≡ false) ↔ Refuses1
+  unfolding passes passesBy f leftOut
+  case1 one = (
+    λ e.
+        let x = count-one (t .corners) (onSkin t inside r) one in
+        let (s, l, o, h) = free-reads leftOut .0 (sym value ∙ e) in
+        (x, (s, l, o, holds-left-out s .0 h (x .one) (x .below) (x .is))),
+    λ (x, (s, l, o, h)). value ∙ free-reads leftOut .1 (s, l, o, holds-left-out s .1 (λ c m q. rw (x .only c m q) h)),
+  )
+    where
+      value : passes t inside adding r ≡ free t (otherSide adding inside) r leftOut
+      value = rw one
+
+  case2 : f ≡ 2 → (passes t inside adding r ≡ false) ↔ Refuses2
+  unfolding passes passesBy f leftOut
+  case2 two = (
+    λ e.
+        let x = count-two (t .corners) (onSkin t inside r) two in
+        let (s, l, o, h) = free-reads leftOut .0 (sym value ∙ e) in
+        (x, (s, l, o, (holds-left-out s .0 h (x .one) (x .one-below) (x .one-is), holds-left-out s .0 h (x .two) (x .two-below) (x .two-is)))),
+    λ (x, (s, l, o, (h, k))).
+        value ∙ free-reads leftOut .1 (s, l, o, holds-left-out s .1 (λ c m q. ⊎-elim (λ (e : c ≡ x .one). rw e h) (λ (e : c ≡ x .two). rw e k) (x .only c m q))),
+  )
+    where
+      value : passes t inside adding r ≡ free t (otherSide adding inside) r leftOut
+      value = rw two
+
+  -- f = 3 and f = 4 pass
+  case-more : f ≢ 0 → f ≢ 1 → f ≢ 2 → passes t inside adding r ≡ true
+  unfolding passes passesBy f
+  case-more n₀ n₁ n₂ = rw (ne-eqb f 0 n₀, ne-eqb f 1 n₁, ne-eqb f 2 n₂)
+
+  pub passes-reads : (passes t inside adding r ≡ false) ↔ Refuses
+  unfolding f
+  passes-reads = (
+    λ e. ⊎-elim (λ z. inl (case0 z .0 e)) (λ n₀. ⊎-elim (λ o. inr (inl (case1 o .0 e))) (λ n₁. ⊎-elim (λ w. inr (inr (case2 w .0 e)))
+        (λ n₂. absurd (not-both (case-more n₀ n₁ n₂) e)) (same-or-not f 2)) (same-or-not f 1)) (same-or-not f 0),
+    back,
+  )
+    where
+      back : Refuses → passes t inside adding r ≡ false
+      back (inl x) = case0 (none-count (t .corners) (onSkin t inside r) (λ c l. is-false (onSkin t inside r c) (x .0 c l))) .1 x
+      back (inr (inl x)) = case1 (one-count (t .corners) (onSkin t inside r) (x .0)) .1 x
+      back (inr (inr x)) = case2 (two-count (t .corners) (onSkin t inside r) (x .0)) .1 x
+
+-- ---- the answers
+
+module _ (t : Table) (marks : List ℕ) (p : Proposal) where
+  -- when each of the answers 1 to 5 applies. (The place of each is 0.)
+  abbrev pub answerConditions : List (ℕ → Type 0)
+  answerConditions =
+      -- 1: row number not below N
+      (λ place. (t .rows ≤ p .row) × (place ≡ 0))
+      -- 2: kind not 1 or 2
+      ∷ (λ place. ((p .kind ≢ 1) × (p .kind ≢ 2)) × (place ≡ 0))
+      -- 3: outer row
+      ∷ (λ place. Holds t (p .row) 0 × (place ≡ 0))
+      -- 4: add of an inside row, remove of an outside row
+      ∷ (λ place. (((p .kind ≡ 1) × (insideIn marks (p .row) ≡ true)) ⊎ ((p .kind ≡ 2) × (insideIn marks (p .row) ≡ false))) × (place ≡ 0))
+      -- 5: the five cases refuse
+      ∷ (λ place. Refuses t (insideIn marks) (adds p) (p .row) × (place ≡ 0))
+      ∷ []
+
+  answers-read : Reads (answerTests t marks p) answerConditions
+  unfolding answerTests outer adds
+  answers-read = (
+    given-reads (not (ltb (p .row) (t .rows))) (λ e. ltb-false (p .row) (t .rows) (not-true (ltb (p .row) (t .rows)) e), λ l. ap not (le-ltb (p .row) (t .rows) l)),
+    λ _. (
+      given-reads (not (eqb (p .kind) 1 || eqb (p .kind) 2)) kinds,
+      λ known. (
+        given-reads (holds t (p .row) 0) (holds-reads t (p .row) 0),
+        λ _. (
+          given-reads (otherSide (adds p) (insideIn marks) (p .row))
+              (already (or-either (eqb (p .kind) 1) (eqb (p .kind) 2) (not-false (eqb (p .kind) 1 || eqb (p .kind) 2) (given-none (not (eqb (p .kind) 1 || eqb (p .kind) 2)) known)))),
+          λ _. (
+            given-reads (not (passes t (insideIn marks) (adds p) (p .row))) (
+              λ e. passes-reads t (insideIn marks) (adds p) (p .row) .0 (not-true (passes t (insideIn marks) (adds p) (p .row)) e),
+              λ x. ap not (passes-reads t (insideIn marks) (adds p) (p .row) .1 x),
+            ),
+            λ _. tt,
+          ),
+        ),
+      ),
+    ),
+  )
+    where
+      kinds : (not (eqb (p .kind) 1 || eqb (p .kind) 2) ≡ true) ↔ ((p .kind ≢ 1) × (p .kind ≢ 2))
+      kinds = (
+        λ e.
+            let neither = not-true (eqb (p .kind) 1 || eqb (p .kind) 2) e in
+            (eqb-false (p .kind) 1 (or-no-first (eqb (p .kind) 1) (eqb (p .kind) 2) neither), eqb-false (p .kind) 2 (or-no-second (eqb (p .kind) 1) (eqb (p .kind) 2) neither)),
+        λ (a, b). rw (ne-eqb (p .kind) 1 a, ne-eqb (p .kind) 2 b),
+      )
+
+      Already : Type 0
+      Already = ((p .kind ≡ 1) × (insideIn marks (p .row) ≡ true)) ⊎ ((p .kind ≡ 2) × (insideIn marks (p .row) ≡ false))
+
+      adding : p .kind ≡ 1 → (insideIn marks (p .row) ≡ adds p) ↔ Already
+      adding k =
+          let is : adds p ≡ true = eq-eqb (p .kind) 1 k in
+          (λ e. inl (k, e ∙ is), ⊎-elim (λ (_, i). i ∙ sym is) (λ (k′, _). absurd (omega arith)))
+
+      removing : p .kind ≡ 2 → (insideIn marks (p .row) ≡ adds p) ↔ Already
+      removing k =
+          let is : adds p ≡ false = ne-eqb (p .kind) 1 (λ (e : p .kind ≡ 1). omega arith) in
+          (λ e. inr (k, e ∙ is), ⊎-elim (λ (k′, _). absurd (omega arith)) (λ (_, i). i ∙ sym is))
+
+      already : (eqb (p .kind) 1 ≡ true) ⊎ (eqb (p .kind) 2 ≡ true) → (otherSide (adds p) (insideIn marks) (p .row) ≡ true) ↔ Already
+      already k =
+          Iff·trans (other-side-reads (adds p) (insideIn marks) (p .row)) (⊎-elim (λ e. adding (eqb-true (p .kind) 1 e)) (λ e. removing (eqb-true (p .kind) 2 e)) k)
+
+  -- answer 1 + i is given exactly if it applies and none before it does
+  pub answer-exactly : (i : ℕ) → i < 5 → (answer t marks p ≡ 1 + i) ↔ ((place : ℕ) × FirstOf answerConditions i place)
+  unfolding answer answerTests
+  answer-exactly i l = code-reads 1 (zero-lt-suc 0) (answerTests t marks p) answerConditions answers-read i l
+
+  -- answer 0 exactly if none applies
+  pub taken-exactly : (answer t marks p ≡ 0) ↔ ((i place : ℕ) → conditionAt answerConditions i place → ⊥)
+  unfolding answer
+  taken-exactly = none-reads 1 (zero-lt-suc 0) (answerTests t marks p) answerConditions answers-read
