@@ -5,3 +5,5 @@ pub mod Closed
 pub mod Skin
 pub mod Ring
 pub mod Answers
+pub mod Codes
+pub mod Room

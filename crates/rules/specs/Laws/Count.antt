@@ -38,6 +38,11 @@ unfolding sum
 sum-le zero f g e = le-refl 0
 sum-le (suc n) f g e = add-le-add (sum-le n f g (λ k l. e k (le-step l))) (e n (le-refl (suc n)))
 
+pub sum-const : (n k : ℕ) → sum n (λ _. k) ≡ n * k
+unfolding sum
+sum-const zero k = sym (zero-mul k)
+sum-const (suc n) k = ap (λ (x : ℕ). x + k) (sum-const n k) ∙ sym (suc-mul n k)
+
 -- a sum of which one number alone is not 0
 pub sum-at : (n : ℕ) (f : ℕ → ℕ) (k : ℕ) → k < n → ((j : ℕ) → j < n → j ≢ k → f j ≡ 0) → sum n f ≡ f k
 unfolding sum

@@ -38,6 +38,28 @@ match-code code (test ∷ tests) =
     ⊎-elim (λ (place, e). inr (rw (match-here code test tests place e) (le-refl code)))
     (λ e. rw (match-later code test tests e) (⊎-elim inl (λ l. inr (omega arith)) (match-code (suc code) tests))) (test-cases test)
 
+pub match-below : (code : ℕ) → 0 < code → (tests : List Test) → firstMatch code tests .code < code + length tests
+unfolding firstMatch
+match-below code pos [] = omega arith
+match-below code pos (test ∷ tests) =
+    ⊎-elim (λ (place, e). rw (match-here code test tests place e) (omega arith))
+    (λ e. rw (match-later code test tests e) (omega (arith, match-below (suc code) (zero-lt-suc code) tests))) (test-cases test)
+
+-- code 0: the first test gave none, and nor did the rest
+pub match-zero : (code : ℕ) → 0 < code → (test : Test) (tests : List Test) → firstMatch code (test ∷ tests) .code ≡ 0
+    → (test tt ≡ none) × (firstMatch (suc code) tests .code ≡ 0)
+match-zero code pos test tests e =
+    ⊎-elim (λ (k, m). let z : code ≡ 0 = ap (λ (v : Verdict). v .code) (sym (match-here code test tests k m)) ∙ e in absurd (omega arith))
+    (λ n. (n, ap (λ (v : Verdict). v .code) (sym (match-later code test tests n)) ∙ e)) (test-cases test)
+
+-- no match has no place
+pub match-none : (code : ℕ) → 0 < code → (tests : List Test) → firstMatch code tests .code ≡ 0 → firstMatch code tests .place ≡ 0
+unfolding firstMatch
+match-none code pos [] e = refl
+match-none code pos (test ∷ tests) e =
+    let (n, later) = match-zero code pos test tests e in
+    ap (λ (v : Verdict). v .place) (match-later code test tests n) ∙ match-none (suc code) (zero-lt-suc code) tests later
+
 -- ---- what the tests say
 
 -- Conditions in the order of the tests: each test gives a place exactly if its condition holds there, and may rest on it that those before it gave none.
@@ -154,10 +176,10 @@ code-reads code pos tests conditions reads i l = (
 )
 
 -- a test whose place is 0
-pub given-reads : (b : Bool) {P : Type 0} → (b ≡ true) ↔ P → (place : ℕ) → (given b ≡ some place) ↔ (P × (place ≡ 0))
+pub given-reads : {b : Bool} {P : Type 0} → (b ≡ true) ↔ P → (place : ℕ) → (given b ≡ some place) ↔ (P × (place ≡ 0))
 unfolding given found
-given-reads true (forth, back) place = (λ e. (forth refl, cc), λ (x, z). rw z)
-given-reads false (forth, back) place = (
+given-reads {b = true} (forth, back) place = (λ e. (forth refl, cc), λ (x, z). rw z)
+given-reads {b = false} (forth, back) place = (
   λ e. let z : _≡_ {A = ℕ} 0 1 = cc in absurd (omega arith),
   λ (x, z). let y : _≡_ {A = ℕ} 0 1 = absurd (true≢false (sym (back x))) in absurd (omega arith),
 )

@@ -76,14 +76,14 @@ eqb-back a b = same-test (eqb a b) (eqb b a) (λ e. eq-eqb b a (sym (eqb-true a 
 
 -- ---- a test and its negation, read
 
-pub not-reads : (b : Bool) {P : Type 0} → (b ≡ true) ↔ P → (not b ≡ true) ↔ (P → ⊥)
-not-reads b (forth, back) = (λ e p. not-both (back p) (not-true b e), λ off. ap not (is-false b (λ t. off (forth t))))
+pub not-reads : {b : Bool} {P : Type 0} → (b ≡ true) ↔ P → (not b ≡ true) ↔ (P → ⊥)
+not-reads {b} (forth, back) = (λ e p. not-both (back p) (not-true b e), λ off. ap not (is-false b (λ t. off (forth t))))
 
-pub and-reads : (a b : Bool) {P Q : Type 0} → (a ≡ true) ↔ P → (b ≡ true) ↔ Q → (a && b ≡ true) ↔ (P × Q)
-and-reads a b (f, g) (h, k) = (λ e. (f (and-first a b e), h (and-second a b e)), λ (p, q). and-both (g p) (k q))
+pub and-reads : {a b : Bool} {P Q : Type 0} → (a ≡ true) ↔ P → (b ≡ true) ↔ Q → (a && b ≡ true) ↔ (P × Q)
+and-reads {a} {b} (f, g) (h, k) = (λ e. (f (and-first a b e), h (and-second a b e)), λ (p, q). and-both (g p) (k q))
 
-pub or-reads : (a b : Bool) {P Q : Type 0} → (a ≡ true) ↔ P → (b ≡ true) ↔ Q → (a || b ≡ true) ↔ (P ⊎ Q)
-or-reads a b (f, g) (h, k) = (λ e. ⊎-elim (λ t. inl (f t)) (λ t. inr (h t)) (or-either a b e), λ x. ⊎-elim (λ p. or-first b (g p)) (λ q. or-second a (k q)) x)
+pub or-reads : {a b : Bool} {P Q : Type 0} → (a ≡ true) ↔ P → (b ≡ true) ↔ Q → (a || b ≡ true) ↔ (P ⊎ Q)
+or-reads {a} {b} (f, g) (h, k) = (λ e. ⊎-elim (λ t. inl (f t)) (λ t. inr (h t)) (or-either a b e), λ x. ⊎-elim (λ p. or-first b (g p)) (λ q. or-second a (k q)) x)
 
 pub eqb-reads : (m n : ℕ) → (eqb m n ≡ true) ↔ (m ≡ n)
 eqb-reads m n = (eqb-true m n, eq-eqb m n)

@@ -172,16 +172,16 @@ module _ (t : Table) (marks : List ℕ) (p : Proposal) where
   answers-read : Reads (answerTests t marks p) answerConditions
   unfolding answerTests outer adds
   answers-read = (
-    given-reads (not (ltb (p .row) (t .rows))) (λ e. ltb-false (p .row) (t .rows) (not-true (ltb (p .row) (t .rows)) e), λ l. ap not (le-ltb (p .row) (t .rows) l)),
+    given-reads {b = not (ltb (p .row) (t .rows))} (λ e. ltb-false (p .row) (t .rows) (not-true (ltb (p .row) (t .rows)) e), λ l. ap not (le-ltb (p .row) (t .rows) l)),
     λ _. (
-      given-reads (not (eqb (p .kind) 1 || eqb (p .kind) 2)) kinds,
+      given-reads kinds,
       λ known. (
-        given-reads (holds t (p .row) 0) (holds-reads t (p .row) 0),
+        given-reads (holds-reads t (p .row) 0),
         λ _. (
-          given-reads (otherSide (adds p) (insideIn marks) (p .row))
+          given-reads
               (already (or-either (eqb (p .kind) 1) (eqb (p .kind) 2) (not-false (eqb (p .kind) 1 || eqb (p .kind) 2) (given-none (not (eqb (p .kind) 1 || eqb (p .kind) 2)) known)))),
           λ _. (
-            given-reads (not (passes t (insideIn marks) (adds p) (p .row))) (
+            given-reads {b = not (passes t (insideIn marks) (adds p) (p .row))} (
               λ e. passes-reads t (insideIn marks) (adds p) (p .row) .0 (not-true (passes t (insideIn marks) (adds p) (p .row)) e),
               λ x. ap not (passes-reads t (insideIn marks) (adds p) (p .row) .1 x),
             ),

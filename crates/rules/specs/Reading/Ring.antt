@@ -11,7 +11,7 @@ use Rattle.rules.specs.Table.{Table}
 use Rattle.rules.specs.Skin.{farEdge, farEnd, oneRing, skinVertex, ringless, clean}
 use Rattle.rules.specs.Laws.Truth.{true-or-false, not-both, is-false, and-first, and-second, and-both, or-either, or-first, or-second}
 use Rattle.rules.specs.Laws.Below.{any-here, any-some, any-none, none-any, all-each, each-all}
-use Rattle.rules.specs.Laws.Count.{ExactlyTwo, count-two, two-count}
+use Rattle.rules.specs.Laws.Count.{ExactlyTwo, two-map, count-two, two-count}
 use Rattle.rules.specs.Laws.Joined.{Chain, stay, step, chain-starts, chain-map, Picked, picked-chain, chain-picked}
 use Rattle.rules.specs.Reading.Skin.{far-back}
 
@@ -75,6 +75,14 @@ module _ (n : ℕ) (Far : ℕ → ℕ → Type 0) where
     joined-ends two joined = record {
       two = two;
       joined = λ e f p q. ends-edges (joined (e .0) (f .0) (e .1, p) (f .1, q)) (e .1) (f .1) p q;
+    }
+
+-- the same edges, the same ring
+pub ring-map : {n : ℕ} {F G : ℕ → ℕ → Type 0} → ((a b : ℕ) → F a b → G a b) → ((a b : ℕ) → G a b → F a b) → OneRing n F → OneRing n G
+ring-map {n} {F} {G} forth back ring = record {
+      two = λ a b (la, lb, g). two-map (forth a) (back a) (ring .two a b (la, lb, back a b g));
+      joined = λ e f (la, lb, g) (lc, ld, h).
+        chain-map (λ x (l, m, k). (l, m, forth (x .0) (x .1) k)) (λ x y _ _ m. m) (ring .joined e f (la, lb, back (e .0) (e .1) g) (lc, ld, back (f .0) (f .1) h));
     }
 
 -- ---- the computed test

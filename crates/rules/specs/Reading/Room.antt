@@ -1,0 +1,221 @@
+-- There are at most 2N triangles on the skin of a closed table of N rows, so 6N words hold them.
+-- Each row has as many triangles as corners. A skin triangle is one of its inside row and one of its outside row; counted from the
+-- inside rows there are at most so many for each inside row, and counted from the outside rows at most so many for each outside row.
+use mathlib.Core.Path.{_≡_, refl, sym, ap, _∙_, subst}
+use mathlib.Core.Logic.{_⊎_, inl, inr, ⊎-elim, _↔_, _≢_, Ne·symm}
+use mathlib.Core.Bool.{Bool, true, false, not, _&&_, xor}
+use mathlib.Core.List.{List, [], _∷_, _++_, map, flatten, List·Memᴰ·head, List·Memᴰ·tail, Memᴰ·cast}
+use Prim.Native.Nat.{ℕ, zero, suc, _+_, _-_, _*_, _≤_, _<_, zero-le}
+use native.Mathlib.Nat.{le-refl, le-trans, le-of-eq, mul-one}
+use native.Mathlib.Omega.{arith}
+use lib.Dec.{eqb}
+use lib.ListN.{length, length-append, length-map}
+use borrow.Author.Tests.{eqb-true, eq-eqb, eqb-false, ne-eqb, not-true}
+use Rattle.rules.specs.Below.{bit, sum, count, gather, only, pick}
+use Rattle.rules.specs.Shape.{facet}
+use Rattle.rules.specs.Table.{Table, side, across}
+use Rattle.rules.specs.Skin.{onSkin, triangle, skinOf, skin}
+use Rattle.rules.specs.Laws.Truth.{true-or-false, not-both, is-false, and-first, and-second, and-both, same-or-not}
+use Rattle.rules.specs.Laws.Count.{sum-same, sum-add, sum-zero, sum-le, sum-const, sum-swap, bit-one, bit-zero, count-without, count-not, one-count, TheOther}
+use Rattle.rules.specs.Laws.Lists.{Among, gather-length, in-gather, gather-in, in-only, only-in, only-length, pick-length}
+use Rattle.rules.specs.Reading.Neighbours.{Side, side-reads, sides, sides-back}
+use Rattle.rules.specs.Reading.Closed.{Closed, across-is, across-other}
+use Rattle.rules.specs.Reading.Skin.{skin-between}
+
+module _ (t : Table) (inside : ℕ → Bool) where
+  -- the skin triangles of an inside row
+  listed : ℕ → ℕ → Bool
+  listed r c = inside r && onSkin t inside r c
+
+  skin-length : length (skin t inside) ≡ sum (t .rows) (λ r. sum (t .corners) (λ c. bit (listed r c)))
+  unfolding skin skinOf listed
+  skin-length =
+      gather-length (t .rows) (skinOf t inside)
+      ∙ sum-same (t .rows) (λ r. length (skinOf t inside r)) (λ r. sum (t .corners) (λ c. bit (listed r c))) (λ r _.
+        gather-length (t .corners) (λ c. only (listed r c) (triangle t r c))
+        ∙ sum-same (t .corners) (λ c. length (only (listed r c) (triangle t r c))) (λ c. bit (listed r c)) (λ c _. only-length (listed r c) (triangle t r c)))
+
+  bit-le : {a b : Bool} → (a ≡ true → b ≡ true) → bit a ≤ bit b
+  bit-le {a = true} f = rw (f refl) (le-refl (bit true))
+  bit-le {a = false} f = rw (bit-zero {b = false} refl) zero-le
+
+  module _ {idCount : ℕ} (closed : Closed t idCount) where
+    -- row s is outside, and is the row across the triangle of row r that leaves out c
+    outsideOf : ℕ → ℕ → ℕ → Bool
+    outsideOf r c s = not (inside s) && (not (eqb s r) && side t r c s)
+
+    -- each listed triangle has a row outside
+    listed-outside : (r c : ℕ) → r < t .rows → c < t .corners → bit (listed r c) ≤ sum (t .rows) (λ s. bit (outsideOf r c s))
+    unfolding listed outsideOf xor count
+    listed-outside r c l m = ⊎-elim found-outside (λ f. rw (bit-zero f) zero-le) (true-or-false (listed r c))
+      where
+        o : TheOther (t .rows) (Side t r c) r
+        o = across-is closed r c l m
+
+        outside : listed r c ≡ true → inside (o .other) ≡ false
+        outside e = go (inside r) (inside (o .other)) (and-first (inside r) (onSkin t inside r c) e)
+            (sym (skin-between t inside closed r c l m ∙ ap (λ (s : ℕ). xor (inside r) (inside s)) (across-other t r c o)) ∙ and-second (inside r) (onSkin t inside r c) e)
+          where
+            go : (a b : Bool) → a ≡ true → xor a b ≡ true → b ≡ false
+            go true true p x = sym x
+            go true false p x = refl
+            go false b p x = absurd (not-both p refl)
+
+        found-outside : listed r c ≡ true → bit (listed r c) ≤ sum (t .rows) (λ s. bit (outsideOf r c s))
+        found-outside e =
+            let here : outsideOf r c (o .other) ≡ true =
+              and-both (ap not (outside e)) (and-both (ap not (ne-eqb (o .other) r (o .differs))) (side-reads t r c (o .other) .1 (o .is)))
+            in
+            rw (bit-one e) (omega (arith, count-without (t .rows) (outsideOf r c) (o .other) (o .below) here))
+
+    -- an outside row is so for at most as many triangles as it has corners
+    outside-of-row : (s : ℕ) → s < t .rows → sum (t .rows) (λ r. sum (t .corners) (λ c. bit (outsideOf r c s))) ≤ sum (t .corners) (λ c. bit (not (inside s)))
+    unfolding outsideOf sides count
+    outside-of-row s l = ⊎-elim is-inside is-outside (true-or-false (inside s))
+      where
+        -- a triangle of one row in another
+        shared : ℕ → ℕ → ℕ → Bool
+        shared r c q = not (eqb q r) && side t r c q
+
+        is-inside : inside s ≡ true → sum (t .rows) (λ r. sum (t .corners) (λ c. bit (outsideOf r c s))) ≤ sum (t .corners) (λ c. bit (not (inside s)))
+        is-inside e =
+            rw (sum-zero (t .rows) (λ r. sum (t .corners) (λ c. bit (outsideOf r c s))) (λ r _.
+              sum-zero (t .corners) (λ c. bit (outsideOf r c s)) (λ c _. bit-zero (ap (λ (i : Bool). not i && shared r c s) e)))) zero-le
+
+        -- the triangles of row r in row s are as many as those of row s in row r
+        both-ways : (r : ℕ) → r < t .rows → sum (t .corners) (λ c. bit (shared r c s)) ≡ sum (t .corners) (λ d. bit (shared s d r))
+        both-ways r m = ⊎-elim same apart (same-or-not s r)
+          where
+            same : s ≡ r → sum (t .corners) (λ c. bit (shared r c s)) ≡ sum (t .corners) (λ d. bit (shared s d r))
+            same e =
+                sum-zero (t .corners) (λ c. bit (shared r c s)) (λ c _. bit-zero (ap (λ (i : Bool). not i && side t r c s) (eq-eqb s r e)))
+                ∙ sym (sum-zero (t .corners) (λ d. bit (shared s d r)) (λ d _. bit-zero (ap (λ (i : Bool). not i && side t s d r) (eq-eqb r s (sym e)))))
+
+            apart : s ≢ r → sum (t .corners) (λ c. bit (shared r c s)) ≡ sum (t .corners) (λ d. bit (shared s d r))
+            apart ne =
+                sum-same (t .corners) (λ c. bit (shared r c s)) (λ c. bit (side t r c s)) (λ c _. ap (λ (i : Bool). bit (not i && side t r c s)) (ne-eqb s r ne))
+                ∙ sides-back t r s (closed .rising r m) (closed .rising s l)
+                ∙ sum-same (t .corners) (λ d. bit (side t s d r)) (λ d. bit (shared s d r)) (λ d _. ap (λ (i : Bool). bit (not i && side t s d r)) (sym (ne-eqb r s (Ne·symm ne))))
+
+        is-outside : inside s ≡ false → sum (t .rows) (λ r. sum (t .corners) (λ c. bit (outsideOf r c s))) ≤ sum (t .corners) (λ c. bit (not (inside s)))
+        is-outside f =
+            le-of-eq (
+              sum-same (t .rows) (λ r. sum (t .corners) (λ c. bit (outsideOf r c s))) (λ r. sum (t .corners) (λ d. bit (shared s d r))) (λ r m.
+                sum-same (t .corners) (λ c. bit (outsideOf r c s)) (λ c. bit (shared r c s)) (λ c _. ap (λ (i : Bool). bit (not i && shared r c s)) f)
+                ∙ both-ways r m)
+              ∙ sum-swap (t .rows) (t .corners) (λ r d. bit (shared s d r))
+              ∙ sum-same (t .corners) (λ d. sum (t .rows) (λ r. bit (shared s d r))) (λ d. bit (not (inside s))) (λ d m. one d m ∙ sym (bit-one (ap not f))))
+          where
+            one : (d : ℕ) → d < t .corners → sum (t .rows) (λ r. bit (shared s d r)) ≡ 1
+            one d m =
+                let o = across-is closed s d l m in
+                one-count (t .rows) (shared s d) (record {
+                  one = o .other;
+                  below = o .below;
+                  is = and-both (ap not (ne-eqb (o .other) s (o .differs))) (side-reads t s d (o .other) .1 (o .is));
+                  only = λ k n q. o .only k n (side-reads t s d k .0 (and-second (not (eqb k s)) (side t s d k) q))
+                    (eqb-false k s (not-true (eqb k s) (and-first (not (eqb k s)) (side t s d k) q)));
+                })
+
+    outside-count : sum (t .rows) (λ r. sum (t .corners) (λ c. bit (listed r c))) ≤ sum (t .rows) (λ s. sum (t .corners) (λ c. bit (not (inside s))))
+    outside-count =
+        le-trans
+        (sum-le (t .rows) (λ r. sum (t .corners) (λ c. bit (listed r c))) (λ r. sum (t .corners) (λ c. sum (t .rows) (λ s. bit (outsideOf r c s)))) (λ r l.
+          sum-le (t .corners) (λ c. bit (listed r c)) (λ c. sum (t .rows) (λ s. bit (outsideOf r c s))) (λ c m. listed-outside r c l m)))
+        (le-trans (le-of-eq turned) (sum-le (t .rows) (λ s. sum (t .rows) (λ r. sum (t .corners) (λ c. bit (outsideOf r c s)))) (λ s. sum (t .corners) (λ c. bit (not (inside s)))) outside-of-row))
+      where
+        turned : sum (t .rows) (λ r. sum (t .corners) (λ c. sum (t .rows) (λ s. bit (outsideOf r c s)))) ≡ sum (t .rows) (λ s. sum (t .rows) (λ r. sum (t .corners) (λ c. bit (outsideOf r c s))))
+        turned =
+            sum-same (t .rows) (λ r. sum (t .corners) (λ c. sum (t .rows) (λ s. bit (outsideOf r c s)))) (λ r. sum (t .rows) (λ s. sum (t .corners) (λ c. bit (outsideOf r c s))))
+              (λ r _. sum-swap (t .corners) (t .rows) (λ c s. bit (outsideOf r c s)))
+            ∙ sum-swap (t .rows) (t .rows) (λ r s. sum (t .corners) (λ c. bit (outsideOf r c s)))
+
+    inside-count : sum (t .rows) (λ r. sum (t .corners) (λ c. bit (listed r c))) ≤ sum (t .rows) (λ r. sum (t .corners) (λ c. bit (inside r)))
+    unfolding listed
+    inside-count =
+        sum-le (t .rows) (λ r. sum (t .corners) (λ c. bit (listed r c))) (λ r. sum (t .corners) (λ c. bit (inside r))) (λ r _.
+          sum-le (t .corners) (λ c. bit (listed r c)) (λ c. bit (inside r)) (λ c _. bit-le (and-first (inside r) (onSkin t inside r c))))
+
+    all-triangles : sum (t .rows) (λ r. sum (t .corners) (λ c. bit (inside r))) + sum (t .rows) (λ r. sum (t .corners) (λ c. bit (not (inside r)))) ≡ t .rows * t .corners
+    all-triangles =
+        sym (sum-add (t .rows) (λ r. sum (t .corners) (λ c. bit (inside r))) (λ r. sum (t .corners) (λ c. bit (not (inside r)))))
+        ∙ sum-same (t .rows) (λ r. sum (t .corners) (λ c. bit (inside r)) + sum (t .corners) (λ c. bit (not (inside r)))) (λ r. t .corners) (λ r _.
+          sym (sum-add (t .corners) (λ c. bit (inside r)) (λ c. bit (not (inside r))))
+          ∙ sum-same (t .corners) (λ c. bit (inside r) + bit (not (inside r))) (λ c. 1) (λ c _. either (inside r))
+          ∙ sum-const (t .corners) 1 ∙ mul-one (t .corners))
+        ∙ sum-const (t .rows) (t .corners)
+      where
+        either : (b : Bool) → bit b + bit (not b) ≡ 1
+        either true = rw (bit-one {b = true} refl, bit-zero {b = false} refl)
+        either false = rw (bit-one {b = true} refl, bit-zero {b = false} refl)
+
+    -- twice the skin is at most the triangles of all rows
+    pub skin-half : 2 * length (skin t inside) ≤ t .rows * t .corners
+    skin-half = rw skin-length (omega (arith, inside-count, outside-count, all-triangles))
+
+    -- at most 2N triangles
+    pub at-most-2N : t .corners ≡ 4 → length (skin t inside) ≤ 2 * t .rows
+    at-most-2N four = omega (arith, subst (λ (n : ℕ). 2 * length (skin t inside) ≤ t .rows * n) four skin-half)
+
+-- ---- the words that the skin takes
+
+-- a triangle of a row of four corners has three ids
+pub triangle-length : (t : Table) → t .corners ≡ 4 → (r c : ℕ) → c < 4 → length (triangle t r c) ≡ 3
+unfolding triangle facet
+triangle-length t four r c l =
+    length-map (facet (t .corners) c) (t .id r) ∙ pick-length (t .corners) (λ k. not (eqb k c)) ∙ ap (λ (n : ℕ). count n (λ k. not (eqb k c))) four ∙ three
+  where
+    one : count 4 (λ k. eqb k c) ≡ 1
+    one = one-count 4 (λ k. eqb k c) (record { one = c; below = l; is = eq-eqb c c refl; only = λ k _ e. eqb-true k c e })
+
+    three : count 4 (λ k. not (eqb k c)) ≡ 3
+    three = omega (arith, count-not 4 (λ k. eqb k c), one)
+
+-- the members of the skin list are the skin triangles of the inside rows
+pub record Listed (t : Table) (inside : ℕ → Bool) (ids : List ℕ) : Type 0 where
+  pub row : ℕ
+  pub corner : ℕ
+  pub row-below : row < t .rows
+  pub corner-below : corner < t .corners
+  pub row-inside : inside row ≡ true
+  pub on-skin : onSkin t inside row corner ≡ true
+  pub ids-are : ids ≡ triangle t row corner
+
+pub skin-listed : (t : Table) (inside : ℕ → Bool) (ids : List ℕ) → Among ids (skin t inside) ↔ Listed t inside ids
+unfolding skin skinOf
+skin-listed t inside ids = (
+      λ m.
+        let (r, l, i) = gather-in (t .rows) (skinOf t inside) ids m in
+        let (c, k, j) = gather-in (t .corners) (λ c. only (inside r && onSkin t inside r c) (triangle t r c)) ids i in
+        let (e, q) = only-in (inside r && onSkin t inside r c) (triangle t r c) ids j in
+        record {
+          row = r;
+          corner = c;
+          row-below = l;
+          corner-below = k;
+          row-inside = and-first (inside r) (onSkin t inside r c) e;
+          on-skin = and-second (inside r) (onSkin t inside r c) e;
+          ids-are = q;
+        },
+      λ x.
+        in-gather (t .rows) (skinOf t inside) ids (x .row) (x .row-below)
+        (in-gather (t .corners) (λ c. only (inside (x .row) && onSkin t inside (x .row) c) (triangle t (x .row) c)) ids (x .corner) (x .corner-below)
+        (Memᴰ·cast (x .ids-are) (in-only (inside (x .row) && onSkin t inside (x .row) (x .corner)) (triangle t (x .row) (x .corner)) (and-both (x .row-inside) (x .on-skin))))),
+    )
+
+threes : (xs : List (List ℕ)) → ((x : List ℕ) → Among x xs → length x ≡ 3) → length (flatten xs) ≡ 3 * length xs
+unfolding flatten
+threes [] each = refl
+threes (x ∷ xs) each =
+    length-append x (flatten xs) ∙ omega (arith, each x (List·Memᴰ·head refl), threes xs (λ y m. each y (List·Memᴰ·tail m)))
+
+-- so the skin takes three words for each triangle
+pub skin-words : (t : Table) (inside : ℕ → Bool) → t .corners ≡ 4 → length (flatten (skin t inside)) ≡ 3 * length (skin t inside)
+skin-words t inside four =
+    threes (skin t inside) (λ ids m.
+      let x = skin-listed t inside ids .0 m in
+      ap length (x .ids-are) ∙ triangle-length t four (x .row) (x .corner) (subst (λ (n : ℕ). x .corner < n) four (x .corner-below)))
+
+-- and 6N words hold it
+pub skin-fits : (t : Table) (inside : ℕ → Bool) {idCount : ℕ} → Closed t idCount → t .corners ≡ 4 → length (flatten (skin t inside)) ≤ 6 * t .rows
+skin-fits t inside closed four = omega (arith, skin-words t inside four, at-most-2N t inside closed four)
