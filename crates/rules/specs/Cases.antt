@@ -16,14 +16,13 @@ unfoldable pub free : Table → (ℕ → Bool) → ℕ → List ℕ → Bool
 free t other r face = not (any (t .rows) (λ s. other s && holdsFace t r face s))
 
 -- The cases by f, the number of the row's triangles on the skin. `leftOut` are the left-out corners of these triangles:
--- of one triangle the vertex opposite it, of two the one edge that is in neither (`Laws.Shape`).
-unfoldable pub passesBy : Table → (ℕ → Bool) → ℕ → List ℕ → ℕ → Bool
-passesBy t other r leftOut f =
+-- of one triangle the vertex opposite it, of two the one edge that is in neither (`Laws.Shape.in-neither`).
+unfoldable pub passes : Table → (ℕ → Bool) → Bool → ℕ → Bool
+passes t inside adding r =
+    let other = otherSide adding inside in
+    let leftOut = pick (t .corners) (onSkin t inside r) in
+    let f = count (t .corners) (onSkin t inside r) in
     cond (eqb f 0) (all (t .corners) (λ c. free t other r (c ∷ [])))
     (cond (eqb f 1) (free t other r leftOut)
     (cond (eqb f 2) (free t other r leftOut)
     true))
-
-unfoldable pub passes : Table → (ℕ → Bool) → Bool → ℕ → Bool
-passes t inside adding r =
-    passesBy t (otherSide adding inside) r (pick (t .corners) (onSkin t inside r)) (count (t .corners) (onSkin t inside r))

@@ -1,15 +1,15 @@
 -- Laws of lowest, any and all.
-use mathlib.Core.Path.{_≡_, refl, sym, ap, _∙_, subst}
+use mathlib.Core.Path.{_≡_, refl, sym, subst}
 use mathlib.Core.Logic.{_⊎_, inl, inr, ⊎-elim}
 use mathlib.Core.Bool.{Bool, true, false, not, _&&_, _||_}
-use mathlib.Core.Option.{Option, some, none}
+use mathlib.Core.Option.{some, none}
 use Prim.Native.Nat.{ℕ, zero, suc, _+_, _≤_, _<_}
 use native.Mathlib.Nat.{le-of-suc-le-suc, not-suc-le-zero, eq-or-lt-of-le, le-refl, le-step, le-antisymm, lt-of-not-le}
 use native.Mathlib.Numerals.{add-one}
 use native.Mathlib.Omega.{arith}
 use borrow.Author.Tests.{not-true, not-false}
 use Rattle.rules.specs.Below.{orElse, found, lowest, any, all}
-use Rattle.rules.specs.Laws.Truth.{true-or-false, not-both, is-false, is-true, and-first, and-second, and-both, or-either, or-first, or-second}
+use Rattle.rules.specs.Laws.Truth.{true-or-false, not-both, is-false, and-first, and-second, and-both, or-either, or-first, or-second}
 
 -- what holds of each number below n, and of n, holds of each below n + 1
 pub below-suc {ℓ} : (P : ℕ → Type ℓ) (n : ℕ) → ((k : ℕ) → k < n → P k) → P n → (k : ℕ) → k < suc n → P k

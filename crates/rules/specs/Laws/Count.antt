@@ -1,15 +1,15 @@
 -- Laws of sums and counts: exactly one, exactly two, and counting in two ways.
-use mathlib.Core.Path.{_≡_, refl, sym, ap, ap₂, _∙_, subst}
+use mathlib.Core.Path.{_≡_, refl, sym, ap, _∙_, subst}
 use mathlib.Core.Logic.{_⊎_, inl, inr, ⊎-elim, _≢_}
 use mathlib.Core.Bool.{Bool, true, false, not, _&&_, _||_, cond, Bool·beq, xor, true≢false}
 use Prim.Native.Nat.{ℕ, zero, suc, _+_, _*_, _≤_, _<_, zero-le}
-use native.Mathlib.Nat.{le-of-suc-le-suc, not-suc-le-zero, eq-or-lt-of-le, le-refl, le-step, lt-irrefl, suc-inj, add-zero, zero-add, add-comm, add-assoc, add-le-add, mul-suc, zero-mul, suc-mul}
+use native.Mathlib.Nat.{le-of-suc-le-suc, not-suc-le-zero, eq-or-lt-of-le, le-refl, le-step, lt-irrefl, add-zero, zero-add, add-le-add, zero-mul, suc-mul}
 use native.Mathlib.Numerals.{add-one}
 use native.Mathlib.Omega.{arith}
 use lib.Dec.{eqb}
 use borrow.Author.Tests.{eqb-true, eq-eqb, eqb-false, ne-eqb, not-true, not-false}
-use Rattle.rules.specs.Below.{any, all, allBut, bit, sum, count}
-use Rattle.rules.specs.Laws.Truth.{true-or-false, not-both, is-false, and-first, and-second, and-both, or-either, or-first, or-second, same-or-not}
+use Rattle.rules.specs.Below.{any, allBut, bit, sum, count}
+use Rattle.rules.specs.Laws.Truth.{not-both, is-false, and-first, and-second, and-both, or-either, or-first, or-second, same-or-not}
 use Rattle.rules.specs.Laws.Below.{Lowest, lowest-or-none, any-here, none-any, all-each, each-all}
 
 -- ---- sums

@@ -4,13 +4,12 @@ use mathlib.Core.Logic.{_⊎_, inl, inr, ⊎-elim}
 use mathlib.Core.Bool.{Bool, true, false, not, cond}
 use mathlib.Core.List.{List, [], _∷_, _++_, List·Memᴰ·head, List·Memᴰ·tail, List·Memᴰ·not-nil, List·Memᴰ·cases-cons, List·Memᴰ·append-cases, List·Memᴰ·eq-of-singleton, Memᴰ·append-left, Memᴰ·append-right, Memᴰ·cast}
 use Prim.Native.Nat.{ℕ, zero, suc, _+_, _≤_, _<_}
-use native.Mathlib.Nat.{le-refl, le-of-suc-le-suc}
 use native.Mathlib.Omega.{arith}
 use lib.ListN.{length, length-append}
-use borrow.Author.Tests.{not-true, not-false}
+use borrow.Author.Tests.{not-true}
 use Rattle.rules.specs.Below.{pick}
 use Rattle.rules.specs.Joined.{those, unreached, none-left, connected}
-use Rattle.rules.specs.Laws.Truth.{true-or-false, not-both, is-false}
+use Rattle.rules.specs.Laws.Truth.{true-or-false, not-both}
 use Rattle.rules.specs.Laws.Lists.{Among, Distinct, in-pick, pick-in, pick-distinct}
 
 -- ---- chains

@@ -1,19 +1,19 @@
 -- Laws of the fixed tables: each is one test that antt computes over the whole table, and a lemma that turns it into the rule at each entry.
-use mathlib.Core.Path.{_≡_, refl, sym, ap, _∙_, subst}
-use mathlib.Core.Logic.{_⊎_, inl, inr, ⊎-elim, _↔_, _≢_}
+use mathlib.Core.Path.{_≡_, refl, sym, ap, _∙_}
+use mathlib.Core.Logic.{⊎-elim, _↔_, _≢_}
 use mathlib.Core.Bool.{Bool, true, false, not, _&&_, _||_, Bool·beq}
 use mathlib.Core.List.{List, [], _∷_, List·Memᴰ·head, List·Memᴰ·tail, List·Memᴰ·not-nil, List·Memᴰ·cases-cons}
-use Prim.Native.Nat.{ℕ, zero, suc, _-_, _≤_, _<_}
+use Prim.Native.Nat.{ℕ, _-_, _<_}
 use native.Mathlib.Nat.{lt-trans}
 use lib.Dec.{eqb, ltb}
 use lib.ListN.{getD}
 use borrow.Author.Tests.{eqb-true, eq-eqb, eqb-false, ne-eqb, ltb-true, lt-ltb, not-true}
 use Rattle.rules.specs.Below.{all, bit, sum, count, gather, tabulate, only, pick}
-use Rattle.rules.specs.Shape.{facet, triangleTable, edgeTable, oppositeTable, vertices}
+use Rattle.rules.specs.Shape.{facet, triangleTable, edgeTable, oppositeTable}
 use Rattle.rules.specs.Laws.Truth.{not-both, and-first, and-second, and-both, or-either, or-first, or-second, or-no-first, or-no-second}
 use Rattle.rules.specs.Laws.Below.{all-each}
 use Rattle.rules.specs.Laws.Count.{ExactlyOne, ExactlyTwo, one-map, two-map, count-one, count-two}
-use Rattle.rules.specs.Laws.Lists.{Among, in-gather, gather-in}
+use Rattle.rules.specs.Laws.Lists.{Among}
 
 -- ---- tests on lists
 

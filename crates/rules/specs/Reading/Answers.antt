@@ -1,25 +1,22 @@
 -- The five cases and the answers: each answer is given exactly if it applies and none before it does.
-use mathlib.Core.Path.{_≡_, refl, sym, ap, _∙_, subst}
+use mathlib.Core.Path.{_≡_, refl, sym, ap, _∙_}
 use mathlib.Core.Logic.{_⊎_, inl, inr, ⊎-elim, _↔_, Iff·trans, _≢_}
-use mathlib.Core.Bool.{Bool, true, false, not, _&&_, _||_, cond}
-use mathlib.Core.Option.{Option, some, none}
+use mathlib.Core.Bool.{Bool, true, false, not, _&&_, _||_}
 use mathlib.Core.List.{List, [], _∷_, List·Memᴰ·head, List·Memᴰ·eq-of-singleton}
-use Prim.Native.Nat.{ℕ, zero, suc, _+_, _≤_, _<_}
+use Prim.Native.Nat.{ℕ, _+_, _≤_, _<_}
 use native.Mathlib.Nat.{zero-lt-suc}
 use native.Mathlib.Omega.{arith}
 use lib.Dec.{eqb, ltb}
-use lib.ListN.{length, getD}
-use borrow.Author.Tests.{eqb-true, eq-eqb, eqb-false, ne-eqb, ltb-true, lt-ltb, ltb-false, le-ltb, not-true, not-false}
-use Rattle.rules.specs.Below.{found, any, all, count, pick}
-use Rattle.rules.specs.Table.{Table, holds, outer, holdsFace}
+use borrow.Author.Tests.{eqb-true, eq-eqb, eqb-false, ne-eqb, ltb-false, le-ltb, not-true, not-false}
+use Rattle.rules.specs.Below.{any, all, count, pick}
+use Rattle.rules.specs.Table.{Table, outer, holdsFace}
 use Rattle.rules.specs.Skin.{onSkin}
-use Rattle.rules.specs.First.{Test, given, Verdict, firstMatch}
-use Rattle.rules.specs.Cases.{otherSide, free, passesBy, passes}
+use Rattle.rules.specs.Cases.{otherSide, free, passes}
 use Rattle.rules.specs.Proposals.{Proposal, insideIn, adds, answerTests, answer}
-use Rattle.rules.specs.Laws.Truth.{true-or-false, not-both, is-false, is-true, and-first, and-second, and-both, or-either, or-first, or-second, or-no-first, or-no-second, same-or-not}
-use Rattle.rules.specs.Laws.Below.{any-here, any-some, all-each, each-all, all-fails, fails-all}
+use Rattle.rules.specs.Laws.Truth.{not-both, is-false, and-first, and-second, and-both, or-either, or-no-first, or-no-second, same-or-not}
+use Rattle.rules.specs.Laws.Below.{any-here, any-some, all-fails, fails-all}
 use Rattle.rules.specs.Laws.Count.{count-zero, none-count, ExactlyOne, ExactlyTwo, count-one, one-count, count-two, two-count}
-use Rattle.rules.specs.Laws.Lists.{Among, in-pick, pick-in}
+use Rattle.rules.specs.Laws.Lists.{in-pick, pick-in}
 use Rattle.rules.specs.Laws.First.{Reads, FirstOf, conditionAt, code-reads, none-reads, given-reads, given-none}
 use Rattle.rules.specs.Reading.Rows.{Holds, holds-reads}
 use Rattle.rules.specs.Reading.Closed.{HoldsFace, holds-face-reads}
@@ -92,7 +89,7 @@ module _ (t : Table) (inside : ℕ → Bool) (adding : Bool) (r : ℕ) where
   )
 
   case0 : f ≡ 0 → (passes t inside adding r ≡ false) ↔ Refuses0
-  unfolding passes passesBy f
+  unfolding passes f
   case0 z = (
     λ e.
         let (c, l, q) = all-fails (t .corners) (λ c. free t (otherSide adding inside) r (c ∷ [])) (sym value ∙ e) in
@@ -107,7 +104,7 @@ module _ (t : Table) (inside : ℕ → Bool) (adding : Bool) (r : ℕ) where
       value = rw z
 
   case1 : f ≡ 1 → (passes t inside adding r ≡ false) ↔ Refuses1
-  unfolding passes passesBy f leftOut
+  unfolding passes f leftOut
   case1 one = (
     λ e.
         let x = count-one (t .corners) (onSkin t inside r) one in
@@ -120,7 +117,7 @@ module _ (t : Table) (inside : ℕ → Bool) (adding : Bool) (r : ℕ) where
       value = rw one
 
   case2 : f ≡ 2 → (passes t inside adding r ≡ false) ↔ Refuses2
-  unfolding passes passesBy f leftOut
+  unfolding passes f leftOut
   case2 two = (
     λ e.
         let x = count-two (t .corners) (onSkin t inside r) two in
@@ -135,7 +132,7 @@ module _ (t : Table) (inside : ℕ → Bool) (adding : Bool) (r : ℕ) where
 
   -- f = 3 and f = 4 pass
   case-more : f ≢ 0 → f ≢ 1 → f ≢ 2 → passes t inside adding r ≡ true
-  unfolding passes passesBy f
+  unfolding passes f
   case-more n₀ n₁ n₂ = rw (ne-eqb f 0 n₀, ne-eqb f 1 n₁, ne-eqb f 2 n₂)
 
   pub passes-reads : (passes t inside adding r ≡ false) ↔ Refuses

@@ -1,24 +1,23 @@
 -- The closed table: the triangle, edge and vertex rules.
 use mathlib.Core.Path.{_≡_, refl, sym, ap, _∙_, subst}
 use mathlib.Core.Logic.{_⊎_, inl, inr, ⊎-elim, _↔_, _≢_}
-use mathlib.Core.Bool.{Bool, true, false, not, _&&_}
-use mathlib.Core.Option.{Option, some, Option·getD}
+use mathlib.Core.Bool.{Bool, true, not, _&&_}
+use mathlib.Core.Option.{Option, Option·getD}
 use mathlib.Core.List.{List, [], _∷_, List·Memᴰ·head, List·Memᴰ·tail, List·Memᴰ·not-nil, List·Memᴰ·cases-cons, List·Memᴰ·eq-of-singleton}
-use Prim.Native.Nat.{ℕ, zero, suc, _-_, _≤_, _<_}
+use Prim.Native.Nat.{ℕ, _-_, _<_}
 use native.Mathlib.Nat.{lt-trans, lt-irrefl}
 use native.Mathlib.Omega.{arith}
 use lib.Dec.{eqb, ltb}
 use borrow.Author.Tests.{eqb-true, eq-eqb, eqb-false, ne-eqb, ltb-true, ltb-false, not-true}
-use Rattle.rules.specs.Below.{lowest, any, all, count, pick, tabulate}
+use Rattle.rules.specs.Below.{count, tabulate}
 use Rattle.rules.specs.Shape.{edgeTable, vertices}
-use Rattle.rules.specs.Joined.{connected}
 use Rattle.rules.specs.Table.{Table, holds, side, neighbours, across, trianglesShared, holdsFace, faceJoined, facesJoined, edgesJoined, verticesJoined}
-use Rattle.rules.specs.Laws.Truth.{true-or-false, not-both, is-false, and-first, and-second, and-both, same-or-not}
-use Rattle.rules.specs.Laws.Below.{Lowest, is-lowest, all-each, each-all}
+use Rattle.rules.specs.Laws.Truth.{true-or-false, is-false, and-first, and-second, and-both}
+use Rattle.rules.specs.Laws.Below.{is-lowest, all-each, each-all}
 use Rattle.rules.specs.Laws.Count.{ExactlyTwo, TheOther, two-map, count-two, two-count, the-other}
 use Rattle.rules.specs.Laws.Lists.{Among, in-gather, gather-in}
 use Rattle.rules.specs.Laws.Shape.{table-edge, edge-in-table}
-use Rattle.rules.specs.Laws.Joined.{Chain, chain-map, Picked, picked-chain, chain-picked}
+use Rattle.rules.specs.Laws.Joined.{Chain, chain-map, picked-chain, chain-picked}
 use Rattle.rules.specs.Reading.Rows.{Rising, IdsBelow, Before, Holds, holds-reads}
 use Rattle.rules.specs.Reading.Neighbours.{Side, side-reads, side-self, Neighbours, neighbours-read, neighbours-back}
 

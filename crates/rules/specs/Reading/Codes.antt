@@ -1,21 +1,21 @@
 -- The twelve codes: each is given, with its place, exactly if its condition holds there and none before it does; and what each leaves.
-use mathlib.Core.Path.{_≡_, refl, sym, ap, _∙_, subst}
-use mathlib.Core.Logic.{_⊎_, inl, inr, ⊎-elim, _↔_, Iff·trans, Iff·rfl, _≢_}
-use mathlib.Core.Bool.{Bool, true, false, not, _&&_, _||_, cond}
-use mathlib.Core.Option.{Option, some, none}
+use mathlib.Core.Path.{_≡_, refl, sym, ap, _∙_}
+use mathlib.Core.Logic.{_⊎_, ⊎-elim, _↔_, _≢_}
+use mathlib.Core.Bool.{Bool, true, not, _&&_, _||_}
+use mathlib.Core.Option.{none}
 use mathlib.Core.List.{List, [], _∷_, _++_}
 use Prim.Native.Nat.{ℕ, zero, suc, _+_, _-_, _*_, _≤_, _<_}
 use native.Mathlib.Nat.{zero-lt-suc}
 use native.Mathlib.Omega.{arith}
-use lib.Dec.{eqb, ltb, leb}
+use lib.Dec.{eqb, ltb}
 use lib.ListN.{length, getD, drop, replicate, length-replicate}
-use borrow.Author.Tests.{eqb-true, eq-eqb, eqb-false, ne-eqb, not-true, not-false, lt-ltb, le-leb, lt-leb}
+use borrow.Author.Tests.{ne-eqb, not-false, lt-ltb, le-leb, lt-leb}
 use Rattle.rules.specs.Below.{lowest}
 use Rattle.rules.specs.Table.{Table, tableOf, rising, idsBelow, before, holds, outer, trianglesShared, edgesJoined, verticesJoined}
-use Rattle.rules.specs.Skin.{onSkin, skinVertex, oneRing, ringless}
-use Rattle.rules.specs.First.{Test, given, Verdict, firstMatch}
+use Rattle.rules.specs.Skin.{onSkin, oneRing, ringless}
+use Rattle.rules.specs.First.{Test, Verdict, firstMatch}
 use Rattle.rules.specs.Proposals.{insideIn}
-use Rattle.rules.specs.Job.{Form, track, Header, headerWord, headerOf, within, withinLimits, rowBytes, rowsAt, marksAt, proposalsAt, wholeLength, laidOut, rowsTable, tableOfJob, marksOfJob, proposalsOfJob, Lent, workRoom, triangleRoom, roomShort, written, layoutTests, roomTests, tableTests, markTests, jobTests, Result, accepted, refused, verdictOn, run}
+use Rattle.rules.specs.Job.{track, Header, headerWord, headerOf, within, withinLimits, rowBytes, rowsAt, marksAt, proposalsAt, wholeLength, laidOut, rowsTable, tableOfJob, marksOfJob, proposalsOfJob, Lent, workRoom, triangleRoom, roomShort, written, layoutTests, roomTests, tableTests, markTests, jobTests, Result, accepted, refused, verdictOn, run}
 use Rattle.rules.specs.Laws.Truth.{is-true, not-both, and-both, not-reads, and-reads, or-reads, eqb-reads, ltb-reads, leb-reads, same-or-not}
 use Rattle.rules.specs.Laws.Below.{lowest-none}
 use Rattle.rules.specs.Laws.First.{Reads, FirstOf, conditionAt, first-reads, none-reads, given-reads, match-below, match-zero, match-none}
@@ -120,36 +120,36 @@ module _ (t : Table) (idCount : ℕ) where
       → lowest (t .rows) (λ r. not (verticesJoined t r)) ≡ none → Closed t idCount
   unfolding badRow
   none-closed none5 none6 none7 none8 none9 = record {
-        rising = all-rising none5;
-        below = λ r l. rows-read r .0 (each-row (λ r. rising t r && idsBelow t idCount r) none5 r l) .1;
-        ordered = λ r pos l. before-reads t (r - 1) r .0 (is-true (before t (r - 1) r) (λ f.
-          not-both (and-both (lt-ltb 0 r pos) (ap not f)) (lowest-none (t .rows) (λ r. ltb 0 r && not (before t (r - 1) r)) none6 r l)));
-        two = λ r l. triangles-read t r .0 (each-row (trianglesShared t) none7 r l);
-        edges = λ r l. edges-read t (all-rising none5) r .0 (each-row (edgesJoined t) none8 r l);
-        vertices = λ r l. vertices-read t (all-rising none5) r .0 (each-row (verticesJoined t) none9 r l);
-      }
+    rising = all-rising none5;
+    below = λ r l. rows-read r .0 (each-row (λ r. rising t r && idsBelow t idCount r) none5 r l) .1;
+    ordered = λ r pos l. before-reads t (r - 1) r .0 (is-true (before t (r - 1) r) (λ f.
+        not-both (and-both (lt-ltb 0 r pos) (ap not f)) (lowest-none (t .rows) (λ r. ltb 0 r && not (before t (r - 1) r)) none6 r l)));
+    two = λ r l. triangles-read t r .0 (each-row (trianglesShared t) none7 r l);
+    edges = λ r l. edges-read t (all-rising none5) r .0 (each-row (edgesJoined t) none8 r l);
+    vertices = λ r l. vertices-read t (all-rising none5) r .0 (each-row (verticesJoined t) none9 r l);
+  }
 
   -- codes 5 to 9, and what comes after them on a closed table
   table-reads : (tests : List Test) (conditions : List (ℕ → Type 0)) → (Closed t idCount → Reads tests conditions)
       → Reads (tableTests t idCount ++ tests) (tableConditions t idCount ++ conditions)
   unfolding tableTests badRow
   table-reads tests conditions rest = (
-        lowest-first (t .rows) badRow (λ r. (Rising t r × IdsBelow t idCount r) → ⊥) (λ r _. not-reads (rows-read r)),
-        λ none5. (
-          lowest-first (t .rows) (λ r. ltb 0 r && not (before t (r - 1) r)) (λ r. (0 < r) × (Before t (r - 1) r → ⊥))
-            (λ r _. and-reads (ltb-reads 0 r) (not-reads (before-reads t (r - 1) r))),
-          λ none6. (
-            lowest-first (t .rows) (λ r. not (trianglesShared t r)) (λ r. TrianglesShared t r → ⊥) (λ r _. not-reads (triangles-read t r)),
-            λ none7. (
-              lowest-first (t .rows) (λ r. not (edgesJoined t r)) (λ r. EdgesJoined t r → ⊥) (λ r _. not-reads (edges-read t (all-rising none5) r)),
-              λ none8. (
-                lowest-first (t .rows) (λ r. not (verticesJoined t r)) (λ r. VerticesJoined t r → ⊥) (λ r _. not-reads (vertices-read t (all-rising none5) r)),
-                λ none9. rest (none-closed none5 none6 none7 none8 none9),
-              ),
-            ),
+    lowest-first (t .rows) badRow (λ r. (Rising t r × IdsBelow t idCount r) → ⊥) (λ r _. not-reads (rows-read r)),
+    λ none5. (
+      lowest-first (t .rows) (λ r. ltb 0 r && not (before t (r - 1) r)) (λ r. (0 < r) × (Before t (r - 1) r → ⊥))
+          (λ r _. and-reads (ltb-reads 0 r) (not-reads (before-reads t (r - 1) r))),
+      λ none6. (
+        lowest-first (t .rows) (λ r. not (trianglesShared t r)) (λ r. TrianglesShared t r → ⊥) (λ r _. not-reads (triangles-read t r)),
+        λ none7. (
+          lowest-first (t .rows) (λ r. not (edgesJoined t r)) (λ r. EdgesJoined t r → ⊥) (λ r _. not-reads (edges-read t (all-rising none5) r)),
+          λ none8. (
+            lowest-first (t .rows) (λ r. not (verticesJoined t r)) (λ r. VerticesJoined t r → ⊥) (λ r _. not-reads (vertices-read t (all-rising none5) r)),
+            λ none9. rest (none-closed none5 none6 none7 none8 none9),
           ),
         ),
-      )
+      ),
+    ),
+  )
 
   -- no code from 5 to 9 exactly if the table is closed
   pub closed-reads : (code : ℕ) → 0 < code → (firstMatch code (tableTests t idCount) .code ≡ 0) ↔ Closed t idCount
@@ -177,25 +177,25 @@ module _ (t : Table) (idCount : ℕ) where
   marks-read : t .corners ≡ 4 → (marks : List ℕ) → Closed t idCount → Reads (markTests t idCount marks) (markConditions t idCount marks)
   unfolding markTests outer insideIn ringless
   marks-read four marks closed = (
-        lowest-first (t .rows) (λ r. not (eqb (getD marks r 0) 0 || eqb (getD marks r 0) 1)) (λ r. ((getD marks r 0 ≡ 0) ⊎ (getD marks r 0 ≡ 1)) → ⊥)
-          (λ r _. not-reads (or-reads (eqb-reads (getD marks r 0) 0) (eqb-reads (getD marks r 0) 1))),
-        λ _. (
-          lowest-first (t .rows) (λ r. holds t r 0 && insideIn marks r) (λ r. Holds t r 0 × (getD marks r 0 ≡ 1))
-            (λ r _. and-reads (holds-reads t r 0) (eqb-reads (getD marks r 0) 1)),
-          λ _. (
-            lowest-first idCount (ringless t (insideIn marks) idCount)
-              (λ v. OnSkinVertex t (insideIn marks) v × (OneRing idCount (SkinTriangle t (insideIn marks) v) → ⊥))
-              (λ v _. and-reads (skin-vertex-reads t four (insideIn marks) closed v) (not-reads (ring v))),
-            λ _. tt,
-          ),
-        ),
-      )
+    lowest-first (t .rows) (λ r. not (eqb (getD marks r 0) 0 || eqb (getD marks r 0) 1)) (λ r. ((getD marks r 0 ≡ 0) ⊎ (getD marks r 0 ≡ 1)) → ⊥)
+        (λ r _. not-reads (or-reads (eqb-reads (getD marks r 0) 0) (eqb-reads (getD marks r 0) 1))),
+    λ _. (
+      lowest-first (t .rows) (λ r. holds t r 0 && insideIn marks r) (λ r. Holds t r 0 × (getD marks r 0 ≡ 1))
+          (λ r _. and-reads (holds-reads t r 0) (eqb-reads (getD marks r 0) 1)),
+      λ _. (
+        lowest-first idCount (ringless t (insideIn marks) idCount)
+            (λ v. OnSkinVertex t (insideIn marks) v × (OneRing idCount (SkinTriangle t (insideIn marks) v) → ⊥))
+            (λ v _. and-reads (skin-vertex-reads t four (insideIn marks) closed v) (not-reads (ring v))),
+        λ _. tt,
+      ),
+    ),
+  )
     where
       ring : (v : ℕ) → (oneRing t (insideIn marks) idCount v ≡ true) ↔ OneRing idCount (SkinTriangle t (insideIn marks) v)
       ring v = (
-            λ e. ring-map (λ a b. far-reads t four (insideIn marks) v a b .0) (λ a b. far-reads t four (insideIn marks) v a b .1) (one-ring-reads t (insideIn marks) idCount v .0 e),
-            λ r. one-ring-reads t (insideIn marks) idCount v .1 (ring-map (λ a b. far-reads t four (insideIn marks) v a b .1) (λ a b. far-reads t four (insideIn marks) v a b .0) r),
-          )
+        λ e. ring-map (λ a b. far-reads t four (insideIn marks) v a b .0) (λ a b. far-reads t four (insideIn marks) v a b .1) (one-ring-reads t (insideIn marks) idCount v .0 e),
+        λ r. one-ring-reads t (insideIn marks) idCount v .1 (ring-map (λ a b. far-reads t four (insideIn marks) v a b .1) (λ a b. far-reads t four (insideIn marks) v a b .0) r),
+      )
 
 -- ---- the twelve codes
 
@@ -221,19 +221,19 @@ module _ (job : List ℕ) (lent : Lent) where
   codes-read : Reads (jobTests track job lent) (jobConditions job lent)
   unfolding jobTests layoutTests roomTests
   codes-read = (
-        given-reads (ltb-reads (length job) 32),
+    given-reads (ltb-reads (length job) 32),
+    λ _. (
+      given-reads (not-reads (limits-read (headerOf job))),
+      λ _. (
+        given-reads (not-reads (laid-out-reads (headerOf job) job)),
         λ _. (
-          given-reads (not-reads (limits-read (headerOf job))),
-          λ _. (
-            given-reads (not-reads (laid-out-reads (headerOf job) job)),
-            λ _. (
-              given-reads (room-reads (headerOf job) lent),
-              λ _. table-reads (tableOfJob track job) (headerOf job .ids) (markTests (tableOfJob track job) (headerOf job .ids) (marksOfJob track job))
-                (markConditions (tableOfJob track job) (headerOf job .ids) (marksOfJob track job)) (λ closed. marks-read (tableOfJob track job) (headerOf job .ids) four (marksOfJob track job) closed),
-            ),
-          ),
+          given-reads (room-reads (headerOf job) lent),
+          λ _. table-reads (tableOfJob track job) (headerOf job .ids) (markTests (tableOfJob track job) (headerOf job .ids) (marksOfJob track job))
+              (markConditions (tableOfJob track job) (headerOf job .ids) (marksOfJob track job)) (λ closed. marks-read (tableOfJob track job) (headerOf job .ids) four (marksOfJob track job) closed),
         ),
-      )
+      ),
+    ),
+  )
 
   -- ---- the run
 

@@ -1,16 +1,16 @@
 -- Neighbours: two rows that hold a triangle. That this goes both ways is counted: the ids that two rows share are as many from either side.
-use mathlib.Core.Path.{_≡_, refl, sym, ap, _∙_, subst}
-use mathlib.Core.Logic.{_⊎_, inl, inr, ⊎-elim, _↔_, _≢_}
-use mathlib.Core.Bool.{Bool, true, false, not, _&&_}
-use Prim.Native.Nat.{ℕ, zero, suc, _≤_, _<_}
+use mathlib.Core.Path.{_≡_, refl, sym, ap, _∙_}
+use mathlib.Core.Logic.{_↔_, _≢_}
+use mathlib.Core.Bool.{true, not}
+use Prim.Native.Nat.{ℕ, _<_}
 use native.Mathlib.Omega.{arith}
 use lib.Dec.{eqb}
-use borrow.Author.Tests.{eqb-true, eq-eqb, eqb-false, ne-eqb, not-true}
-use Rattle.rules.specs.Below.{any, allBut, bit, sum, count}
+use borrow.Author.Tests.{eqb-true, eqb-false, ne-eqb, not-true}
+use Rattle.rules.specs.Below.{any, bit, sum, count}
 use Rattle.rules.specs.Table.{Table, holds, side, neighbours}
-use Rattle.rules.specs.Laws.Truth.{eqb-back, is-false, and-first, and-second, and-both}
+use Rattle.rules.specs.Laws.Truth.{eqb-back, and-first, and-second, and-both}
 use Rattle.rules.specs.Laws.Below.{any-here, any-some}
-use Rattle.rules.specs.Laws.Count.{sum-same, sum-swap, count-same, count-some, count-without, any-count, all-but-each, each-all-but, leavable, all-but-count}
+use Rattle.rules.specs.Laws.Count.{sum-same, sum-swap, count-some, count-without, any-count, all-but-each, each-all-but, leavable, all-but-count}
 use Rattle.rules.specs.Reading.Rows.{Rising, one-corner, Holds, holds-reads}
 
 module _ (t : Table) where

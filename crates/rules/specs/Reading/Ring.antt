@@ -1,8 +1,8 @@
 -- One ring: each end lies on exactly two far edges, and any two far edges are joined through common ends.
 use mathlib.Core.Path.{_≡_, refl, sym, ap, _∙_, subst}
-use mathlib.Core.Logic.{_⊎_, inl, inr, ⊎-elim, _↔_, _≢_}
+use mathlib.Core.Logic.{_⊎_, inl, inr, ⊎-elim, _↔_}
 use mathlib.Core.Bool.{Bool, true, false, not, _&&_, _||_}
-use Prim.Native.Nat.{ℕ, _≤_, _<_}
+use Prim.Native.Nat.{ℕ, _<_}
 use lib.Dec.{eqb}
 use borrow.Author.Tests.{eqb-true, eq-eqb, not-true, not-false}
 use Rattle.rules.specs.Below.{any, all, count, pick}
@@ -80,10 +80,10 @@ module _ (n : ℕ) (Far : ℕ → ℕ → Type 0) where
 -- the same edges, the same ring
 pub ring-map : {n : ℕ} {F G : ℕ → ℕ → Type 0} → ((a b : ℕ) → F a b → G a b) → ((a b : ℕ) → G a b → F a b) → OneRing n F → OneRing n G
 ring-map {n} {F} {G} forth back ring = record {
-      two = λ a b (la, lb, g). two-map (forth a) (back a) (ring .two a b (la, lb, back a b g));
-      joined = λ e f (la, lb, g) (lc, ld, h).
-        chain-map (λ x (l, m, k). (l, m, forth (x .0) (x .1) k)) (λ x y _ _ m. m) (ring .joined e f (la, lb, back (e .0) (e .1) g) (lc, ld, back (f .0) (f .1) h));
-    }
+  two = λ a b (la, lb, g). two-map (forth a) (back a) (ring .two a b (la, lb, back a b g));
+  joined = λ e f (la, lb, g) (lc, ld, h).
+      chain-map (λ x (l, m, k). (l, m, forth (x .0) (x .1) k)) (λ x y _ _ m. m) (ring .joined e f (la, lb, back (e .0) (e .1) g) (lc, ld, back (f .0) (f .1) h));
+}
 
 -- ---- the computed test
 

@@ -2,20 +2,20 @@
 -- Each row has as many triangles as corners. A skin triangle is one of its inside row and one of its outside row; counted from the
 -- inside rows there are at most so many for each inside row, and counted from the outside rows at most so many for each outside row.
 use mathlib.Core.Path.{_≡_, refl, sym, ap, _∙_, subst}
-use mathlib.Core.Logic.{_⊎_, inl, inr, ⊎-elim, _↔_, _≢_, Ne·symm}
+use mathlib.Core.Logic.{⊎-elim, _↔_, _≢_, Ne·symm}
 use mathlib.Core.Bool.{Bool, true, false, not, _&&_, xor}
-use mathlib.Core.List.{List, [], _∷_, _++_, map, flatten, List·Memᴰ·head, List·Memᴰ·tail, Memᴰ·cast}
-use Prim.Native.Nat.{ℕ, zero, suc, _+_, _-_, _*_, _≤_, _<_, zero-le}
+use mathlib.Core.List.{List, [], _∷_, flatten, List·Memᴰ·head, List·Memᴰ·tail, Memᴰ·cast}
+use Prim.Native.Nat.{ℕ, _+_, _*_, _≤_, _<_, zero-le}
 use native.Mathlib.Nat.{le-refl, le-trans, le-of-eq, mul-one}
 use native.Mathlib.Omega.{arith}
 use lib.Dec.{eqb}
 use lib.ListN.{length, length-append, length-map}
 use borrow.Author.Tests.{eqb-true, eq-eqb, eqb-false, ne-eqb, not-true}
-use Rattle.rules.specs.Below.{bit, sum, count, gather, only, pick}
+use Rattle.rules.specs.Below.{bit, sum, count, only}
 use Rattle.rules.specs.Shape.{facet}
-use Rattle.rules.specs.Table.{Table, side, across}
+use Rattle.rules.specs.Table.{Table, side}
 use Rattle.rules.specs.Skin.{onSkin, triangle, skinOf, skin}
-use Rattle.rules.specs.Laws.Truth.{true-or-false, not-both, is-false, and-first, and-second, and-both, same-or-not}
+use Rattle.rules.specs.Laws.Truth.{true-or-false, not-both, and-first, and-second, and-both, same-or-not}
 use Rattle.rules.specs.Laws.Count.{sum-same, sum-add, sum-zero, sum-le, sum-const, sum-swap, bit-one, bit-zero, count-without, count-not, one-count, TheOther}
 use Rattle.rules.specs.Laws.Lists.{Among, gather-length, in-gather, gather-in, in-only, only-in, only-length, pick-length}
 use Rattle.rules.specs.Reading.Neighbours.{Side, side-reads, sides, sides-back}
@@ -32,8 +32,8 @@ module _ (t : Table) (inside : ℕ → Bool) where
   skin-length =
       gather-length (t .rows) (skinOf t inside)
       ∙ sum-same (t .rows) (λ r. length (skinOf t inside r)) (λ r. sum (t .corners) (λ c. bit (listed r c))) (λ r _.
-        gather-length (t .corners) (λ c. only (listed r c) (triangle t r c))
-        ∙ sum-same (t .corners) (λ c. length (only (listed r c) (triangle t r c))) (λ c. bit (listed r c)) (λ c _. only-length (listed r c) (triangle t r c)))
+      gather-length (t .corners) (λ c. only (listed r c) (triangle t r c))
+      ∙ sum-same (t .corners) (λ c. length (only (listed r c) (triangle t r c))) (λ c. bit (listed r c)) (λ c _. only-length (listed r c) (triangle t r c)))
 
   bit-le : {a b : Bool} → (a ≡ true → b ≡ true) → bit a ≤ bit b
   bit-le {a = true} f = rw (f refl) (le-refl (bit true))
@@ -64,7 +64,7 @@ module _ (t : Table) (inside : ℕ → Bool) where
         found-outside : listed r c ≡ true → bit (listed r c) ≤ sum (t .rows) (λ s. bit (outsideOf r c s))
         found-outside e =
             let here : outsideOf r c (o .other) ≡ true =
-              and-both (ap not (outside e)) (and-both (ap not (ne-eqb (o .other) r (o .differs))) (side-reads t r c (o .other) .1 (o .is)))
+            and-both (ap not (outside e)) (and-both (ap not (ne-eqb (o .other) r (o .differs))) (side-reads t r c (o .other) .1 (o .is)))
             in
             rw (bit-one e) (omega (arith, count-without (t .rows) (outsideOf r c) (o .other) (o .below) here))
 
@@ -80,7 +80,7 @@ module _ (t : Table) (inside : ℕ → Bool) where
         is-inside : inside s ≡ true → sum (t .rows) (λ r. sum (t .corners) (λ c. bit (outsideOf r c s))) ≤ sum (t .corners) (λ c. bit (not (inside s)))
         is-inside e =
             rw (sum-zero (t .rows) (λ r. sum (t .corners) (λ c. bit (outsideOf r c s))) (λ r _.
-              sum-zero (t .corners) (λ c. bit (outsideOf r c s)) (λ c _. bit-zero (ap (λ (i : Bool). not i && shared r c s) e)))) zero-le
+            sum-zero (t .corners) (λ c. bit (outsideOf r c s)) (λ c _. bit-zero (ap (λ (i : Bool). not i && shared r c s) e)))) zero-le
 
         -- the triangles of row r in row s are as many as those of row s in row r
         both-ways : (r : ℕ) → r < t .rows → sum (t .corners) (λ c. bit (shared r c s)) ≡ sum (t .corners) (λ d. bit (shared s d r))
@@ -100,11 +100,11 @@ module _ (t : Table) (inside : ℕ → Bool) where
         is-outside : inside s ≡ false → sum (t .rows) (λ r. sum (t .corners) (λ c. bit (outsideOf r c s))) ≤ sum (t .corners) (λ c. bit (not (inside s)))
         is-outside f =
             le-of-eq (
-              sum-same (t .rows) (λ r. sum (t .corners) (λ c. bit (outsideOf r c s))) (λ r. sum (t .corners) (λ d. bit (shared s d r))) (λ r m.
-                sum-same (t .corners) (λ c. bit (outsideOf r c s)) (λ c. bit (shared r c s)) (λ c _. ap (λ (i : Bool). bit (not i && shared r c s)) f)
-                ∙ both-ways r m)
-              ∙ sum-swap (t .rows) (t .corners) (λ r d. bit (shared s d r))
-              ∙ sum-same (t .corners) (λ d. sum (t .rows) (λ r. bit (shared s d r))) (λ d. bit (not (inside s))) (λ d m. one d m ∙ sym (bit-one (ap not f))))
+            sum-same (t .rows) (λ r. sum (t .corners) (λ c. bit (outsideOf r c s))) (λ r. sum (t .corners) (λ d. bit (shared s d r))) (λ r m.
+            sum-same (t .corners) (λ c. bit (outsideOf r c s)) (λ c. bit (shared r c s)) (λ c _. ap (λ (i : Bool). bit (not i && shared r c s)) f)
+            ∙ both-ways r m)
+            ∙ sum-swap (t .rows) (t .corners) (λ r d. bit (shared s d r))
+            ∙ sum-same (t .corners) (λ d. sum (t .rows) (λ r. bit (shared s d r))) (λ d. bit (not (inside s))) (λ d m. one d m ∙ sym (bit-one (ap not f))))
           where
             one : (d : ℕ) → d < t .corners → sum (t .rows) (λ r. bit (shared s d r)) ≡ 1
             one d m =
@@ -114,35 +114,35 @@ module _ (t : Table) (inside : ℕ → Bool) where
                   below = o .below;
                   is = and-both (ap not (ne-eqb (o .other) s (o .differs))) (side-reads t s d (o .other) .1 (o .is));
                   only = λ k n q. o .only k n (side-reads t s d k .0 (and-second (not (eqb k s)) (side t s d k) q))
-                    (eqb-false k s (not-true (eqb k s) (and-first (not (eqb k s)) (side t s d k) q)));
+                      (eqb-false k s (not-true (eqb k s) (and-first (not (eqb k s)) (side t s d k) q)));
                 })
 
     outside-count : sum (t .rows) (λ r. sum (t .corners) (λ c. bit (listed r c))) ≤ sum (t .rows) (λ s. sum (t .corners) (λ c. bit (not (inside s))))
     outside-count =
         le-trans
         (sum-le (t .rows) (λ r. sum (t .corners) (λ c. bit (listed r c))) (λ r. sum (t .corners) (λ c. sum (t .rows) (λ s. bit (outsideOf r c s)))) (λ r l.
-          sum-le (t .corners) (λ c. bit (listed r c)) (λ c. sum (t .rows) (λ s. bit (outsideOf r c s))) (λ c m. listed-outside r c l m)))
+        sum-le (t .corners) (λ c. bit (listed r c)) (λ c. sum (t .rows) (λ s. bit (outsideOf r c s))) (λ c m. listed-outside r c l m)))
         (le-trans (le-of-eq turned) (sum-le (t .rows) (λ s. sum (t .rows) (λ r. sum (t .corners) (λ c. bit (outsideOf r c s)))) (λ s. sum (t .corners) (λ c. bit (not (inside s)))) outside-of-row))
       where
         turned : sum (t .rows) (λ r. sum (t .corners) (λ c. sum (t .rows) (λ s. bit (outsideOf r c s)))) ≡ sum (t .rows) (λ s. sum (t .rows) (λ r. sum (t .corners) (λ c. bit (outsideOf r c s))))
         turned =
             sum-same (t .rows) (λ r. sum (t .corners) (λ c. sum (t .rows) (λ s. bit (outsideOf r c s)))) (λ r. sum (t .rows) (λ s. sum (t .corners) (λ c. bit (outsideOf r c s))))
-              (λ r _. sum-swap (t .corners) (t .rows) (λ c s. bit (outsideOf r c s)))
+            (λ r _. sum-swap (t .corners) (t .rows) (λ c s. bit (outsideOf r c s)))
             ∙ sum-swap (t .rows) (t .rows) (λ r s. sum (t .corners) (λ c. bit (outsideOf r c s)))
 
     inside-count : sum (t .rows) (λ r. sum (t .corners) (λ c. bit (listed r c))) ≤ sum (t .rows) (λ r. sum (t .corners) (λ c. bit (inside r)))
     unfolding listed
     inside-count =
         sum-le (t .rows) (λ r. sum (t .corners) (λ c. bit (listed r c))) (λ r. sum (t .corners) (λ c. bit (inside r))) (λ r _.
-          sum-le (t .corners) (λ c. bit (listed r c)) (λ c. bit (inside r)) (λ c _. bit-le (and-first (inside r) (onSkin t inside r c))))
+        sum-le (t .corners) (λ c. bit (listed r c)) (λ c. bit (inside r)) (λ c _. bit-le (and-first (inside r) (onSkin t inside r c))))
 
     all-triangles : sum (t .rows) (λ r. sum (t .corners) (λ c. bit (inside r))) + sum (t .rows) (λ r. sum (t .corners) (λ c. bit (not (inside r)))) ≡ t .rows * t .corners
     all-triangles =
         sym (sum-add (t .rows) (λ r. sum (t .corners) (λ c. bit (inside r))) (λ r. sum (t .corners) (λ c. bit (not (inside r)))))
         ∙ sum-same (t .rows) (λ r. sum (t .corners) (λ c. bit (inside r)) + sum (t .corners) (λ c. bit (not (inside r)))) (λ r. t .corners) (λ r _.
-          sym (sum-add (t .corners) (λ c. bit (inside r)) (λ c. bit (not (inside r))))
-          ∙ sum-same (t .corners) (λ c. bit (inside r) + bit (not (inside r))) (λ c. 1) (λ c _. either (inside r))
-          ∙ sum-const (t .corners) 1 ∙ mul-one (t .corners))
+        sym (sum-add (t .corners) (λ c. bit (inside r)) (λ c. bit (not (inside r))))
+        ∙ sum-same (t .corners) (λ c. bit (inside r) + bit (not (inside r))) (λ c. 1) (λ c _. either (inside r))
+        ∙ sum-const (t .corners) 1 ∙ mul-one (t .corners))
         ∙ sum-const (t .rows) (t .corners)
       where
         either : (b : Bool) → bit b + bit (not b) ≡ 1
@@ -184,24 +184,24 @@ pub record Listed (t : Table) (inside : ℕ → Bool) (ids : List ℕ) : Type 0 
 pub skin-listed : (t : Table) (inside : ℕ → Bool) (ids : List ℕ) → Among ids (skin t inside) ↔ Listed t inside ids
 unfolding skin skinOf
 skin-listed t inside ids = (
-      λ m.
-        let (r, l, i) = gather-in (t .rows) (skinOf t inside) ids m in
-        let (c, k, j) = gather-in (t .corners) (λ c. only (inside r && onSkin t inside r c) (triangle t r c)) ids i in
-        let (e, q) = only-in (inside r && onSkin t inside r c) (triangle t r c) ids j in
-        record {
-          row = r;
-          corner = c;
-          row-below = l;
-          corner-below = k;
-          row-inside = and-first (inside r) (onSkin t inside r c) e;
-          on-skin = and-second (inside r) (onSkin t inside r c) e;
-          ids-are = q;
-        },
-      λ x.
-        in-gather (t .rows) (skinOf t inside) ids (x .row) (x .row-below)
-        (in-gather (t .corners) (λ c. only (inside (x .row) && onSkin t inside (x .row) c) (triangle t (x .row) c)) ids (x .corner) (x .corner-below)
-        (Memᴰ·cast (x .ids-are) (in-only (inside (x .row) && onSkin t inside (x .row) (x .corner)) (triangle t (x .row) (x .corner)) (and-both (x .row-inside) (x .on-skin))))),
-    )
+  λ m.
+      let (r, l, i) = gather-in (t .rows) (skinOf t inside) ids m in
+      let (c, k, j) = gather-in (t .corners) (λ c. only (inside r && onSkin t inside r c) (triangle t r c)) ids i in
+      let (e, q) = only-in (inside r && onSkin t inside r c) (triangle t r c) ids j in
+      record {
+        row = r;
+        corner = c;
+        row-below = l;
+        corner-below = k;
+        row-inside = and-first (inside r) (onSkin t inside r c) e;
+        on-skin = and-second (inside r) (onSkin t inside r c) e;
+        ids-are = q;
+      },
+  λ x.
+      in-gather (t .rows) (skinOf t inside) ids (x .row) (x .row-below)
+      (in-gather (t .corners) (λ c. only (inside (x .row) && onSkin t inside (x .row) c) (triangle t (x .row) c)) ids (x .corner) (x .corner-below)
+      (Memᴰ·cast (x .ids-are) (in-only (inside (x .row) && onSkin t inside (x .row) (x .corner)) (triangle t (x .row) (x .corner)) (and-both (x .row-inside) (x .on-skin))))),
+)
 
 threes : (xs : List (List ℕ)) → ((x : List ℕ) → Among x xs → length x ≡ 3) → length (flatten xs) ≡ 3 * length xs
 unfolding flatten
@@ -213,8 +213,8 @@ threes (x ∷ xs) each =
 pub skin-words : (t : Table) (inside : ℕ → Bool) → t .corners ≡ 4 → length (flatten (skin t inside)) ≡ 3 * length (skin t inside)
 skin-words t inside four =
     threes (skin t inside) (λ ids m.
-      let x = skin-listed t inside ids .0 m in
-      ap length (x .ids-are) ∙ triangle-length t four (x .row) (x .corner) (subst (λ (n : ℕ). x .corner < n) four (x .corner-below)))
+    let x = skin-listed t inside ids .0 m in
+    ap length (x .ids-are) ∙ triangle-length t four (x .row) (x .corner) (subst (λ (n : ℕ). x .corner < n) four (x .corner-below)))
 
 -- and 6N words hold it
 pub skin-fits : (t : Table) (inside : ℕ → Bool) {idCount : ℕ} → Closed t idCount → t .corners ≡ 4 → length (flatten (skin t inside)) ≤ 6 * t .rows

@@ -1,18 +1,18 @@
 -- Rows: rising ids, dictionary order, the ids that a row holds. "First such row" is `First`.
-use mathlib.Core.Path.{_≡_, refl, sym, ap, _∙_, subst}
-use mathlib.Core.Logic.{_⊎_, inl, inr, ⊎-elim, _↔_, _≢_}
-use mathlib.Core.Bool.{Bool, true, false, not, _&&_, _||_}
-use mathlib.Core.Option.{some, none}
+use mathlib.Core.Path.{_≡_}
+use mathlib.Core.Logic.{⊎-elim, _↔_}
+use mathlib.Core.Bool.{Bool, true, _&&_}
+use mathlib.Core.Option.{some}
 use Prim.Native.Nat.{ℕ, zero, suc, _+_, _-_, _≤_, _<_}
 use native.Mathlib.Nat.{lt-trans, le-antisymm, le-of-suc-le, le-of-suc-le-suc, not-suc-le-zero, eq-or-lt-of-le, lt-of-not-le}
 use native.Mathlib.Numerals.{add-one}
 use native.Mathlib.Omega.{arith}
 use lib.Dec.{eqb, ltb}
-use borrow.Author.Tests.{eqb-true, eq-eqb, ltb-true, lt-ltb, not-true, not-false}
-use Rattle.rules.specs.Below.{lowest, any, all}
-use Rattle.rules.specs.Table.{Table, rising, idsBelow, before, holds, side}
-use Rattle.rules.specs.Laws.Truth.{true-or-false, not-both, is-false, and-first, and-second, and-both, or-either, or-first, or-second, same-or-not}
-use Rattle.rules.specs.Laws.Below.{Lowest, lowest-is, is-lowest, any-here, any-some, all-each, each-all}
+use borrow.Author.Tests.{eqb-true, eq-eqb, ltb-true, lt-ltb}
+use Rattle.rules.specs.Below.{lowest, all}
+use Rattle.rules.specs.Table.{Table, rising, idsBelow, before, holds}
+use Rattle.rules.specs.Laws.Truth.{not-both, is-false, and-first, and-second, and-both}
+use Rattle.rules.specs.Laws.Below.{lowest-is, is-lowest, any-here, any-some, all-each, each-all}
 
 -- ---- the first with a property
 

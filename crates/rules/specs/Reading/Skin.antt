@@ -2,18 +2,17 @@
 use mathlib.Core.Path.{_≡_, refl, sym, ap, ap₂, _∙_, subst}
 use mathlib.Core.Logic.{_⊎_, inl, inr, ⊎-elim, _↔_, _≢_, Ne·symm}
 use mathlib.Core.Bool.{Bool, true, false, not, _&&_, xor, and-comm}
-use Prim.Native.Nat.{ℕ, zero, suc, _≤_, _<_}
-use native.Mathlib.Nat.{lt-trans}
+use Prim.Native.Nat.{ℕ, _<_}
 use lib.Dec.{eqb}
-use borrow.Author.Tests.{eqb-true, eq-eqb, eqb-false, ne-eqb, not-true, not-false}
-use Rattle.rules.specs.Below.{any, all, count}
+use borrow.Author.Tests.{eqb-true, eq-eqb, eqb-false, ne-eqb, not-true}
+use Rattle.rules.specs.Below.{any, count}
 use Rattle.rules.specs.Table.{Table, holds, side, across}
 use Rattle.rules.specs.Skin.{onSkin, different, holdsThree, farEdge, farEnd, skinVertex}
 use Rattle.rules.specs.Laws.Truth.{not-both, same-test, and-first, and-second, and-both, same-or-not, eqb-back}
-use Rattle.rules.specs.Laws.Below.{any-here, any-some, all-each}
-use Rattle.rules.specs.Laws.Count.{ExactlyOne, one-map, ExactlyTwo, TheOther, count-same, count-one, one-count, count-two, one-side}
+use Rattle.rules.specs.Laws.Below.{any-here, any-some}
+use Rattle.rules.specs.Laws.Count.{ExactlyOne, one-map, ExactlyTwo, TheOther, count-same, count-one, one-count, one-side}
 use Rattle.rules.specs.Laws.Shape.{fourth-corner, two-others}
-use Rattle.rules.specs.Reading.Rows.{Rising, one-corner, Holds, holds-reads}
+use Rattle.rules.specs.Reading.Rows.{one-corner, Holds, holds-reads}
 use Rattle.rules.specs.Reading.Neighbours.{Side, side-reads, side-self}
 use Rattle.rules.specs.Reading.Closed.{Closed, across-other, across-is}
 

@@ -3,7 +3,6 @@ use Prim.Native.Nat.{ℕ}
 use mathlib.Core.Path.{_≡_, refl}
 use mathlib.Core.List.{List, [], _∷_, _++_, map}
 use lib.ListN.{take, set, replicate}
-use Rattle.rules.specs.Job.{Lent}
 use Rattle.rules.specs.Worked.{header, job, lend, done, Worked, ran, known, accepts, refuses, keeps, row, three, add, remove, proposal, tableA, tableB, marked}
 
 abbrev pub proposalsA : List ℕ
