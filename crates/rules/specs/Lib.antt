@@ -1,4 +1,4 @@
--- What document 01 means. The modules stand in its order, each idea in one place:
+-- What document 01 means, from the bottom up, in its words, each idea in one place:
 --     Below       numbers below a bound: lowest, any, all, count, pick, tabulate
 --     Words       numbers in bytes, low byte first
 --     Shape       corners, triangles and edges of a row, by position

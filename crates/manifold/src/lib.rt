@@ -1,0 +1,1 @@
+// No code: that the five cases decide rings is proved in specs/.
