@@ -21,7 +21,7 @@ flip-back {inside} {after} {r} f = record { named = sym (twice (inside r)) ∙ a
     twice true = refl
     twice false = refl
 
-same-mark : (a b : Bool) → (a ≡ b) ⊎ (a ≢ b)
+pub same-mark : (a b : Bool) → (a ≡ b) ⊎ (a ≢ b)
 same-mark true true = inl refl
 same-mark true false = inr true≢false
 same-mark false true = inr false≢true

@@ -1,2 +1,6 @@
-pub mod Ring
 pub mod Facet
+pub mod Ring
+pub mod Triangle
+pub mod Sides
+pub mod Cases
+pub mod Decide

@@ -6,10 +6,12 @@
 --     one       S′ is a ring exactly if the corner opposite that edge is no end of S
 --     none      S′ is a ring exactly if S is empty
 use mathlib.Core.Path.{_≡_, refl, sym, ap, _∙_, subst}
-use mathlib.Core.Logic.{_⊎_, inl, inr, ⊎-elim, _≢_, Ne·symm}
-use Prim.Native.Nat.{ℕ}
+use mathlib.Core.Logic.{_⊎_, inl, inr, ⊎-elim, _↔_, _≢_, Ne·symm}
+use Prim.Native.Nat.{ℕ, _<_}
 use Rattle.rules.specs.Laws.Truth.{same-or-not}
-use Rattle.rules.specs.Laws.Joined.{Chain, stay, step, chain-starts, chain-join, chain-back}
+use Rattle.rules.specs.Laws.Joined.{Chain, stay, step, chain-join, chain-back, chain-map}
+use Rattle.rules.specs.Reading.Ring as Reading
+use Rattle.rules.specs.Reading.Ring.{OneRing, ends-joined, joined-ends}
 use Rattle.manifold.specs.Facet.{Flips}
 
 -- ---- rings
@@ -39,6 +41,20 @@ Empty S = (a b : ℕ) → S a b → ⊥
 
 pub empty-ring : {S : Edges} → Empty S → Ring S
 empty-ring none = record { two = λ a b e. absurd (none a b e); joined = λ a c (b, e) _. absurd (none a b e) }
+
+-- the same edges, the same ring
+pub ring-along : {S S′ : Edges} → ((a b : ℕ) → S a b → S′ a b) → ((a b : ℕ) → S′ a b → S a b) → Ring S → Ring S′
+ring-along forth back ring = record {
+  two = λ a b s. let x = ring .two a b (back a b s) in record {
+    one = x .one;
+    two = x .two;
+    one-is = forth a (x .one) (x .one-is);
+    two-is = forth a (x .two) (x .two-is);
+    differ = x .differ;
+    only = λ k h. x .only k (back a k h);
+  };
+  joined = λ a c (b, p) (d, q). chain-map (λ x (y, s). (y, forth x y s)) (λ x y _ _ s. forth x y s) (ring .joined a c (b, back a b p) (d, back c d q));
+}
 
 -- ---- a triangle whose edges are flipped
 
@@ -437,3 +453,37 @@ pub none-in-empty : {T : ℕ → Type 0} {x y z : ℕ} → Corners T x y z → {
 none-in-empty {T} {x} {y} {z} c f nxy nyz nzx ring′ =
     three-in c (other-way f) (flips-second (f .between x y (c .first) (c .second) (c .xy)) nxy)
     (flips-second (f .between y z (c .second) (c .third) (c .yz)) nyz) (flips-second (f .between z x (c .third) (c .first) (c .zx)) nzx) ring′
+
+-- ---- the ring of `rules`, which speaks of numbers below n
+
+module _ {n : ℕ} {S : Edges} (below : (a b : ℕ) → S a b → (a < n) × (b < n)) (back : (a b : ℕ) → S a b → S b a) where
+  edge : (a b : ℕ) → S a b → Reading.Edge n S (a, b)
+  edge a b s = let (la, lb) = below a b s in (la, lb, s)
+
+  pub ring-reads : OneRing n S ↔ Ring S
+  ring-reads = (
+    λ ring. record {
+      two = λ a b s. let x = ring .two a b (edge a b s) in record {
+        one = x .one;
+        two = x .two;
+        one-is = x .one-is;
+        two-is = x .two-is;
+        differ = x .differ;
+        only = λ k h. x .only k (below a k h .1) h;
+      };
+      joined = λ a c (b, p) (d, q). chain-map (λ x (y, (_, _, s)). (y, s)) (λ x y _ _ s. s) (ends-joined n S back ring a c (b, edge a b p) (d, edge c d q));
+    },
+    λ ring.
+        joined-ends n S back
+        (λ a b (_, _, s). let x = ring .two a b s in record {
+          one = x .one;
+          two = x .two;
+          one-below = below a (x .one) (x .one-is) .1;
+          two-below = below a (x .two) (x .two-is) .1;
+          one-is = x .one-is;
+          two-is = x .two-is;
+          differ = x .differ;
+          only = λ k _ h. x .only k h;
+        })
+        (λ a c (b, (_, _, p)) (d, (_, _, q)). chain-map (λ x (y, s). (y, edge x y s)) (λ x y _ _ s. s) (ring .joined a c (b, p) (d, q))),
+  )

@@ -220,6 +220,11 @@ module _ (t : Table) (four : t .corners ≡ 4) where
         ap (λ (n : ℕ). eqb n 1)
         (count-same (t .rows) (λ s. inside s && side t r c s) (λ s. inside s && holdsThree t v a b s) (λ s _. ap (λ (h : Bool). inside s && h) (triangle-rows x d lc s)))
 
+    -- a triangle of a row is on the skin exactly if two of its ids are a far edge of the third
+    pub skin-far : {r c v a b : ℕ} → TriangleIds t r c v a b → Different v a b → c < 4 → onSkin t inside r c ≡ farEdge t inside v a b
+    unfolding farEdge insideRows
+    skin-far {v = v} {a = a} {b = b} x d lc = rw (different-reads v a b .1 d) (skin-count x d lc)
+
     -- the far edges of v are the edges opposite it in the skin triangles that hold it
     pub far-reads : (v a b : ℕ) → (farEdge t inside v a b ≡ true) ↔ SkinTriangle t inside v a b
     unfolding farEdge insideRows
