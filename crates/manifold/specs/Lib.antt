@@ -4,3 +4,4 @@ pub mod Triangle
 pub mod Sides
 pub mod Cases
 pub mod Decide
+pub mod Steps

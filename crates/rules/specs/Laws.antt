@@ -6,3 +6,4 @@ pub mod Lists
 pub mod Joined
 pub mod Shape
 pub mod First
+pub mod Proposals

@@ -1,0 +1,307 @@
+-- Proposals: each answer, every step, and backwards.
+use mathlib.Core.Path.{_≡_, refl, sym, ap, ap₂, _∙_, subst}
+use mathlib.Core.Logic.{_⊎_, inl, inr, ⊎-elim, _↔_, _≢_}
+use mathlib.Core.Bool.{Bool, true, false, not, _||_, cond}
+use mathlib.Core.List.{List, [], _∷_, _++_, map, reverse, reverse-cons}
+use Prim.Native.Nat.{ℕ, zero, suc, _≤_, _<_}
+use native.Mathlib.Nat.{lt-of-not-le, not-le-of-lt}
+use native.Mathlib.Omega.{arith}
+use lib.Dec.{eqb, lit<}
+use lib.ListN.{length, getD, set, take, replicate, length-append, length-set, replicate-append-replicate}
+use lib.Seq.{getD-set-same, getD-set-other, set-set, set-getD}
+use borrow.Author.Tests.{eqb-true, eq-eqb, ne-eqb, ltb-false, lt-ltb}
+use Rattle.rules.specs.Below.{bit, only}
+use Rattle.rules.specs.Table.{Table}
+use Rattle.rules.specs.Skin.{clean}
+use Rattle.rules.specs.Cases.{passes}
+use Rattle.rules.specs.Proposals.{Proposal, insideIn, adds, answer, marksAfter, answersTo, finalMarks}
+use Rattle.rules.specs.Laws.Truth.{true-or-false, not-both, is-true, is-false, same-or-not}
+use Rattle.rules.specs.Laws.Proposals.{answers-append, final-append}
+use Rattle.rules.specs.Laws.First.{FirstOf, conditionAt}
+use Rattle.rules.specs.Reading.Rows.{Holds}
+use Rattle.rules.specs.Reading.Closed.{Closed}
+use Rattle.rules.specs.Reading.Answers.{answerConditions, answer-exactly, taken-exactly, passes-reads}
+use Rattle.manifold.specs.Facet.{FlipAt}
+use Rattle.manifold.specs.Decide.{cases-decide}
+
+-- ---- a flipped mark
+
+-- the marks with the named one as the proposal asks
+abbrev pub flipped : List ℕ → Proposal → List ℕ
+flipped marks p = set marks (p .row) (bit (adds p))
+
+mark-of : (b : Bool) → eqb (bit b) 1 ≡ b
+unfolding bit
+mark-of true = refl
+mark-of false = refl
+
+twice : (b : Bool) → not (not b) ≡ b
+twice true = refl
+twice false = refl
+
+flip-at : (marks : List ℕ) (p : Proposal) → p .row < length marks → insideIn marks (p .row) ≡ not (adds p)
+    → FlipAt (insideIn marks) (insideIn (flipped marks p)) (p .row)
+unfolding insideIn
+flip-at marks p l e = record {
+  named = ap (λ (m : ℕ). eqb m 1) (getD-set-same marks (p .row) (bit (adds p)) 0 l) ∙ mark-of (adds p) ∙ sym (twice (adds p)) ∙ ap not (sym e);
+  others = λ s ne. ap (λ (m : ℕ). eqb m 1) (getD-set-other marks (p .row) s (bit (adds p)) 0 ne);
+}
+
+-- ---- a proposal that passes tests 1 to 4
+
+-- none of the answers 1 to 4 applies
+abbrev pub PassesEarlier : Table → List ℕ → Proposal → Type 0
+PassesEarlier t marks p = (i : ℕ) → i < 4 → (place : ℕ) → conditionAt (answerConditions t marks p) i place → ⊥
+
+-- what that says
+pub record Eligible (t : Table) (marks : List ℕ) (p : Proposal) : Type 0 where
+  pub row-below : p .row < t .rows
+  pub kind-known : (p .kind ≡ 1) ⊎ (p .kind ≡ 2)
+  pub finite : Holds t (p .row) 0 → ⊥
+  pub this-side : insideIn marks (p .row) ≡ not (adds p)
+
+adds-is : (p : Proposal) → p .kind ≡ 1 → adds p ≡ true
+unfolding adds
+adds-is p k = eq-eqb (p .kind) 1 k
+
+removes-is : (p : Proposal) → p .kind ≡ 2 → adds p ≡ false
+unfolding adds
+removes-is p k = ne-eqb (p .kind) 1 (λ (e : p .kind ≡ 1). omega arith)
+
+pub passes-earlier : (t : Table) (marks : List ℕ) (p : Proposal) → PassesEarlier t marks p ↔ Eligible t marks p
+passes-earlier t marks p = (forth, back)
+  where
+    forth : PassesEarlier t marks p → Eligible t marks p
+    forth off = record { row-below = lt-of-not-le (λ l. off 0 (lit< tt) 0 (l, refl)); kind-known = known; finite = λ h. off 2 (lit< tt) 0 (h, refl); this-side = side known }
+      where
+        known : (p .kind ≡ 1) ⊎ (p .kind ≡ 2)
+        known = ⊎-elim inl (λ n₁. ⊎-elim inr (λ n₂. absurd (off 1 (lit< tt) 0 ((n₁, n₂), refl))) (same-or-not (p .kind) 2)) (same-or-not (p .kind) 1)
+
+        side : (p .kind ≡ 1) ⊎ (p .kind ≡ 2) → insideIn marks (p .row) ≡ not (adds p)
+        side (inl k) = is-false (insideIn marks (p .row)) (λ e. off 3 (lit< tt) 0 (inl (k, e), refl)) ∙ ap not (sym (adds-is p k))
+        side (inr k) = is-true (insideIn marks (p .row)) (λ e. off 3 (lit< tt) 0 (inr (k, e), refl)) ∙ ap not (sym (removes-is p k))
+
+    back : Eligible t marks p → PassesEarlier t marks p
+    back x zero l place (r, _) = not-le-of-lt (x .row-below) r
+    back x (suc zero) l place ((n₁, n₂), _) = ⊎-elim n₁ n₂ (x .kind-known)
+    back x (suc (suc zero)) l place (h, _) = x .finite h
+    back x (suc (suc (suc zero))) l place (inl (k, e), _) = not-both e (x .this-side ∙ ap not (adds-is p k))
+    back x (suc (suc (suc zero))) l place (inr (k, e), _) = not-both (x .this-side ∙ ap not (removes-is p k)) e
+    back x (suc (suc (suc (suc i)))) l place c = absurd (omega arith)
+
+-- ---- answers by the fifth test
+
+module _ (t : Table) (marks : List ℕ) (p : Proposal) where
+  -- a taken proposal passes all tests
+  taken-earlier : answer t marks p ≡ 0 → PassesEarlier t marks p
+  taken-earlier a i _ = taken-exactly t marks p .0 a i
+
+  module _ (off : PassesEarlier t marks p) where
+    taken-passes : (answer t marks p ≡ 0) ↔ (passes t (insideIn marks) (adds p) (p .row) ≡ true)
+    taken-passes = (
+      λ a. is-true (passes t (insideIn marks) (adds p) (p .row)) (λ n. taken-exactly t marks p .0 a 4 0 (passes-reads t (insideIn marks) (adds p) (p .row) .0 n, refl)),
+      λ q. taken-exactly t marks p .1 (none q),
+    )
+      where
+        none : passes t (insideIn marks) (adds p) (p .row) ≡ true → (i place : ℕ) → conditionAt (answerConditions t marks p) i place → ⊥
+        none q zero = off 0 (lit< tt)
+        none q (suc zero) = off 1 (lit< tt)
+        none q (suc (suc zero)) = off 2 (lit< tt)
+        none q (suc (suc (suc zero))) = off 3 (lit< tt)
+        none q (suc (suc (suc (suc zero)))) = λ place (x, _). not-both q (passes-reads t (insideIn marks) (adds p) (p .row) .1 x)
+        none q (suc (suc (suc (suc (suc i))))) = λ place c. c
+
+    refused-passes : (answer t marks p ≡ 5) ↔ (passes t (insideIn marks) (adds p) (p .row) ≡ false)
+    refused-passes = (
+      λ a. let (_, x) = answer-exactly t marks p 4 (lit< tt) .0 a in passes-reads t (insideIn marks) (adds p) (p .row) .1 (x .holds .0),
+      λ n. answer-exactly t marks p 4 (lit< tt) .1 (0, record { holds = (passes-reads t (insideIn marks) (adds p) (p .row) .0 n, refl); none-before = off }),
+    )
+
+  after-taken : answer t marks p ≡ 0 → marksAfter t marks p ≡ flipped marks p
+  unfolding marksAfter
+  after-taken a = rw a
+
+  after-refused : answer t marks p ≢ 0 → marksAfter t marks p ≡ marks
+  unfolding marksAfter
+  after-refused ne = rw (ne-eqb (answer t marks p) 0 ne)
+
+-- ---- backwards, said
+
+-- add and remove exchanged
+unfoldable pub exchanged : Proposal → Proposal
+exchanged p = record { row = p .row; kind = cond (adds p) 2 1 }
+
+module _ (t : Table) where
+  -- those of the proposals that are taken, in order
+  unfoldable pub takenOf : List ℕ → List Proposal → List Proposal
+  takenOf marks [] = []
+  takenOf marks (p ∷ ps) = only (eqb (answer t marks p) 0) p ++ takenOf (marksAfter t marks p) ps
+
+  -- the taken ones, reversed, add and remove exchanged
+  unfoldable pub undoing : List ℕ → List Proposal → List Proposal
+  undoing marks ps = reverse (map exchanged (takenOf marks ps))
+
+  -- all of them get answer 0, and leave these marks
+  abbrev pub AllTaken : List ℕ → List Proposal → List ℕ → Type 0
+  AllTaken marks ps left = (answersTo t marks ps ≡ replicate (length ps) 0) × (finalMarks t marks ps ≡ left)
+
+  all-taken-append : (marks between left : List ℕ) (xs ys : List Proposal) → AllTaken marks xs between → AllTaken between ys left → AllTaken marks (xs ++ ys) left
+  all-taken-append marks between left xs ys (a, m) (b, n) = (
+    answers-append t marks xs ys
+        ∙ ap₂ (λ (u v : List ℕ). u ++ v) a (ap (λ (k : List ℕ). answersTo t k ys) m ∙ b)
+        ∙ replicate-append-replicate (length xs) (length ys) 0
+        ∙ ap (λ (k : ℕ). replicate k 0) (sym (length-append xs ys)),
+    final-append t marks xs ys ∙ ap (λ (k : List ℕ). finalMarks t k ys) m ∙ n,
+  )
+
+  undoing-taken : (marks : List ℕ) (p : Proposal) (ps : List Proposal) → answer t marks p ≡ 0 → undoing marks (p ∷ ps) ≡ undoing (marksAfter t marks p) ps ++ (exchanged p ∷ [])
+  unfolding undoing takenOf only
+  undoing-taken marks p ps a = ap (λ (b : Bool). reverse (map exchanged (only b p ++ takenOf (marksAfter t marks p) ps))) (eq-eqb (answer t marks p) 0 a) ∙ reverse-cons (exchanged p) (map exchanged (takenOf (marksAfter t marks p) ps))
+
+  undoing-refused : (marks : List ℕ) (p : Proposal) (ps : List Proposal) → answer t marks p ≢ 0 → undoing marks (p ∷ ps) ≡ undoing (marksAfter t marks p) ps
+  unfolding undoing takenOf only
+  undoing-refused marks p ps ne = ap (λ (b : Bool). reverse (map exchanged (only b p ++ takenOf (marksAfter t marks p) ps))) (ne-eqb (answer t marks p) 0 ne)
+
+exchanged-adds : (p : Proposal) → adds (exchanged p) ≡ not (adds p)
+unfolding adds exchanged
+exchanged-adds p = go (eqb (p .kind) 1)
+  where
+    go : (b : Bool) → eqb (cond b 2 1) 1 ≡ not b
+    go true = refl
+    go false = refl
+
+exchanged-kind : (p : Proposal) → (exchanged p .kind ≡ 1) ⊎ (exchanged p .kind ≡ 2)
+unfolding exchanged
+exchanged-kind p = go (adds p)
+  where
+    go : (b : Bool) → (_≡_ {A = ℕ} (cond b 2 1) 1) ⊎ (_≡_ {A = ℕ} (cond b 2 1) 2)
+    go true = inr refl
+    go false = inl refl
+
+-- a mark that is 0 or 1 is what it says
+mark-back : (marks : List ℕ) (r : ℕ) → (getD marks r 0 ≡ 0) ⊎ (getD marks r 0 ≡ 1) → bit (insideIn marks r) ≡ getD marks r 0
+unfolding insideIn bit
+mark-back marks r (inl z) = rw z
+mark-back marks r (inr o) = rw o
+
+-- ---- the promises
+
+-- the marks of an accepted job: one for each row, each 0 or 1
+pub record Marks (t : Table) (marks : List ℕ) : Type 0 where
+  pub one-each : length marks ≡ t .rows
+  pub binary : (r : ℕ) → r < t .rows → (getD marks r 0 ≡ 0) ⊎ (getD marks r 0 ≡ 1)
+
+flipped-marks : (t : Table) (marks : List ℕ) → Marks t marks → (p : Proposal) → p .row < t .rows → Marks t (flipped marks p)
+unfolding bit
+flipped-marks t marks m p l = record {
+  one-each = length-set marks (p .row) (bit (adds p)) ∙ m .one-each;
+  binary = λ r lr.
+      ⊎-elim (λ (e : r ≡ p .row). subst (λ (k : ℕ). (k ≡ 0) ⊎ (k ≡ 1)) (sym (ap (λ (i : ℕ). getD (flipped marks p) i 0) e ∙ getD-set-same marks (p .row) (bit (adds p)) 0 (subst (λ (n : ℕ). p .row < n) (sym (m .one-each)) l))) (zero-or-one (adds p)))
+      (λ ne. subst (λ (k : ℕ). (k ≡ 0) ⊎ (k ≡ 1)) (sym (getD-set-other marks (p .row) r (bit (adds p)) 0 ne)) (m .binary r lr)) (same-or-not r (p .row));
+}
+  where
+    zero-or-one : (b : Bool) → (bit b ≡ 0) ⊎ (bit b ≡ 1)
+    zero-or-one true = inr refl
+    zero-or-one false = inl refl
+
+module _ (t : Table) (four : t .corners ≡ 4) {idCount : ℕ} (closed : Closed t idCount) where
+  -- the skin of these marks is clean
+  abbrev Clean : List ℕ → Type 0
+  Clean marks = clean t (insideIn marks) idCount ≡ true
+
+  -- the five cases pass exactly if the skin with the named mark flipped is clean
+  decides : (marks : List ℕ) → Marks t marks → Clean marks → (p : Proposal) → PassesEarlier t marks p
+      → passes t (insideIn marks) (adds p) (p .row) ≡ clean t (insideIn (flipped marks p)) idCount
+  decides marks m e p off =
+      let x = passes-earlier t marks p .0 off in
+      cases-decide t four closed (flip-at marks p (subst (λ (n : ℕ). p .row < n) (sym (m .one-each)) (x .row-below)) (x .this-side)) (x .row-below) (adds p) (x .this-side) e
+
+  -- Of a proposal that passes tests 1 to 4 the answer is 0 exactly if the skin with the named mark flipped is clean, and 5 exactly if it is not.
+  pub five-cases : (marks : List ℕ) → Marks t marks → Clean marks → (p : Proposal) → PassesEarlier t marks p
+      → ((answer t marks p ≡ 0) ↔ (clean t (insideIn (flipped marks p)) idCount ≡ true))
+      × ((answer t marks p ≡ 5) ↔ (clean t (insideIn (flipped marks p)) idCount ≡ false))
+  five-cases marks m e p off =
+      let same = decides marks m e p off in
+      let (tf, tb) = taken-passes t marks p off in
+      let (rf, rb) = refused-passes t marks p off in
+      ((λ a. sym same ∙ tf a, λ c. tb (same ∙ c)), (λ a. sym same ∙ rf a, λ c. rb (same ∙ c)))
+
+  -- nothing clean is refused by test 5
+  pub nothing-clean-refused : (marks : List ℕ) → Marks t marks → Clean marks → (p : Proposal) → PassesEarlier t marks p → Clean (flipped marks p) → answer t marks p ≡ 0
+  nothing-clean-refused marks m e p off c = five-cases marks m e p off .0 .1 c
+
+  -- nothing unclean is taken
+  pub nothing-unclean-taken : (marks : List ℕ) → Marks t marks → Clean marks → (p : Proposal) → answer t marks p ≡ 0 → Clean (flipped marks p)
+  nothing-unclean-taken marks m e p a = five-cases marks m e p (taken-earlier t marks p a) .0 .0 a
+
+  -- ---- every step
+
+  one-step : (marks : List ℕ) → Marks t marks → Clean marks → (p : Proposal) → Marks t (marksAfter t marks p) × Clean (marksAfter t marks p)
+  one-step marks m e p = ⊎-elim was-taken was-refused (same-or-not (answer t marks p) 0)
+    where
+      was-taken : answer t marks p ≡ 0 → Marks t (marksAfter t marks p) × Clean (marksAfter t marks p)
+      was-taken a =
+          subst (λ (n : List ℕ). Marks t n × Clean n) (sym (after-taken t marks p a))
+          (flipped-marks t marks m p (passes-earlier t marks p .0 (taken-earlier t marks p a) .row-below), nothing-unclean-taken marks m e p a)
+
+      was-refused : answer t marks p ≢ 0 → Marks t (marksAfter t marks p) × Clean (marksAfter t marks p)
+      was-refused ne = subst (λ (n : List ℕ). Marks t n × Clean n) (sym (after-refused t marks p ne)) (m, e)
+
+  all-steps : (marks : List ℕ) → Marks t marks → Clean marks → (ps : List Proposal) → Marks t (finalMarks t marks ps) × Clean (finalMarks t marks ps)
+  unfolding finalMarks
+  all-steps marks m e [] = (m, e)
+  all-steps marks m e (p ∷ ps) = let (m′, e′) = one-step marks m e p in all-steps (marksAfter t marks p) m′ e′ ps
+
+  -- From a clean start the skin is clean after every prefix of any list of proposals.
+  pub every-step : (marks : List ℕ) → Marks t marks → Clean marks → (ps : List Proposal) (k : ℕ) → Clean (finalMarks t marks (take k ps))
+  every-step marks m e ps k = all-steps marks m e (take k ps) .1
+
+  -- ---- backwards
+
+  -- a taken proposal is taken back
+  undo-one : (marks : List ℕ) → Marks t marks → Clean marks → (p : Proposal) → answer t marks p ≡ 0 → AllTaken t (flipped marks p) (exchanged p ∷ []) marks
+  unfolding answersTo finalMarks exchanged
+  undo-one marks m e p a =
+      (ap (λ (x : ℕ). x ∷ []) answer-0, after-taken t now (exchanged p) answer-0 ∙ restored)
+    where
+      now : List ℕ
+      now = flipped marks p
+
+      was : Eligible t marks p
+      was = passes-earlier t marks p .0 (taken-earlier t marks p a)
+
+      in-list : p .row < length marks
+      in-list = subst (λ (n : ℕ). p .row < n) (sym (m .one-each)) (was .row-below)
+
+      restored : flipped now (exchanged p) ≡ marks
+      restored =
+          set-set marks (p .row) (bit (adds p)) (bit (adds (exchanged p)))
+          ∙ ap (λ (x : ℕ). set marks (p .row) x) (ap bit (exchanged-adds p ∙ sym (was .this-side)) ∙ mark-back marks (p .row) (m .binary (p .row) (was .row-below)))
+          ∙ set-getD marks (p .row) 0
+
+      may : Eligible t now (exchanged p)
+      may = record {
+        row-below = was .row-below;
+        kind-known = exchanged-kind p;
+        finite = was .finite;
+        this-side = flip-at marks p in-list (was .this-side) .named ∙ ap not (was .this-side) ∙ ap not (sym (exchanged-adds p));
+      }
+
+      answer-0 : answer t now (exchanged p) ≡ 0
+      answer-0 =
+          nothing-clean-refused now (flipped-marks t marks m p (was .row-below)) (nothing-unclean-taken marks m e p a) (exchanged p) (passes-earlier t now (exchanged p) .1 may)
+          (subst Clean (sym restored) e)
+
+  -- Asked one after the other of the final marks, the taken ones, reversed, add and remove exchanged, all get answer 0 and leave the starting marks.
+  pub backwards : (marks : List ℕ) → Marks t marks → Clean marks → (ps : List Proposal) → AllTaken t (finalMarks t marks ps) (undoing t marks ps) marks
+  unfolding finalMarks takenOf undoing answersTo
+  backwards marks m e [] = (refl, refl)
+  backwards marks m e (p ∷ ps) =
+      let (m′, e′) = one-step marks m e p in
+      let rest = backwards (marksAfter t marks p) m′ e′ ps in
+      ⊎-elim
+      (λ a. subst (λ (qs : List Proposal). AllTaken t (finalMarks t (marksAfter t marks p) ps) qs marks) (sym (undoing-taken t marks p ps a))
+      (all-taken-append t (finalMarks t (marksAfter t marks p) ps) (marksAfter t marks p) marks (undoing t (marksAfter t marks p) ps) (exchanged p ∷ []) rest
+      (subst (λ (k : List ℕ). AllTaken t k (exchanged p ∷ []) marks) (sym (after-taken t marks p a)) (undo-one marks m e p a))))
+      (λ ne. subst (λ (qs : List Proposal). AllTaken t (finalMarks t (marksAfter t marks p) ps) qs marks) (sym (undoing-refused t marks p ps ne))
+      (rest .0, rest .1 ∙ after-refused t marks p ne)) (same-or-not (answer t marks p) 0)
