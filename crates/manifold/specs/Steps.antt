@@ -247,7 +247,7 @@ module _ (t : Table) (four : t .corners ≡ 4) {idCount : ℕ} (closed : Closed 
       was-refused : answer t marks p ≢ 0 → Marks t (marksAfter t marks p) × Clean (marksAfter t marks p)
       was-refused ne = subst (λ (n : List ℕ). Marks t n × Clean n) (sym (after-refused t marks p ne)) (m, e)
 
-  all-steps : (marks : List ℕ) → Marks t marks → Clean marks → (ps : List Proposal) → Marks t (finalMarks t marks ps) × Clean (finalMarks t marks ps)
+  pub all-steps : (marks : List ℕ) → Marks t marks → Clean marks → (ps : List Proposal) → Marks t (finalMarks t marks ps) × Clean (finalMarks t marks ps)
   unfolding finalMarks
   all-steps marks m e [] = (m, e)
   all-steps marks m e (p ∷ ps) = let (m′, e′) = one-step marks m e p in all-steps (marksAfter t marks p) m′ e′ ps

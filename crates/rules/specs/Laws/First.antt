@@ -9,6 +9,7 @@ use native.Mathlib.Nat.{le-refl, le-of-suc-le-suc, not-suc-le-zero, zero-lt-suc,
 use native.Mathlib.Omega.{arith}
 use lib.ListN.{length}
 use Rattle.rules.specs.Below.{found}
+use Rattle.rules.specs.Laws.Truth.{same-or-not}
 use Rattle.rules.specs.First.{Test, given, Verdict, firstMatch}
 
 -- ---- one test after the other
@@ -212,3 +213,10 @@ match-front code (test ∷ xs) ys ne =
     ∙ match-front (suc code) xs ys (λ (z : firstMatch (suc code) xs .code ≡ 0). ne (ap (λ (v : Verdict). v .code) (match-later code test xs n) ∙ z))
     ∙ sym (match-later code test xs n))
     (test-cases test)
+
+-- where nothing matched, nothing matched in either group
+pub match-parts : (code : ℕ) → 0 < code → (xs ys : List Test) → firstMatch code (xs ++ ys) .code ≡ 0
+    → (firstMatch code xs .code ≡ 0) × (firstMatch (code + length xs) ys .code ≡ 0)
+match-parts code pos xs ys e =
+    ⊎-elim (λ z. (z, ap (λ (v : Verdict). v .code) (sym (match-append code pos xs ys z)) ∙ e))
+    (λ ne. absurd (ne (ap (λ (v : Verdict). v .code) (sym (match-front code xs ys ne)) ∙ e))) (same-or-not (firstMatch code xs .code) 0)

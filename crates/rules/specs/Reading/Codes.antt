@@ -8,17 +8,18 @@ use Prim.Native.Nat.{ℕ, zero, suc, _+_, _-_, _*_, _≤_, _<_}
 use native.Mathlib.Nat.{zero-lt-suc}
 use native.Mathlib.Omega.{arith}
 use lib.Dec.{eqb, ltb}
-use lib.ListN.{length, getD, drop, replicate, length-replicate}
+use lib.ListN.{length, getD, drop, replicate, length-replicate, length-drop}
+use lib.Seq.{length-take-le}
 use borrow.Author.Tests.{ne-eqb, not-false, lt-ltb, le-leb, lt-leb}
 use Rattle.rules.specs.Below.{lowest}
 use Rattle.rules.specs.Table.{Table, tableOf, rising, idsBelow, before, holds, outer, trianglesShared, edgesJoined, verticesJoined}
-use Rattle.rules.specs.Skin.{onSkin, oneRing, ringless}
+use Rattle.rules.specs.Skin.{onSkin, oneRing, ringless, clean}
 use Rattle.rules.specs.First.{Test, Verdict, firstMatch}
 use Rattle.rules.specs.Proposals.{insideIn}
-use Rattle.rules.specs.Job.{track, Header, headerWord, headerOf, within, withinLimits, rowBytes, rowsAt, marksAt, proposalsAt, wholeLength, laidOut, rowsTable, tableOfJob, marksOfJob, proposalsOfJob, Lent, workRoom, triangleRoom, roomShort, written, layoutTests, roomTests, tableTests, markTests, jobTests, Result, accepted, refused, verdictOn, run}
+use Rattle.rules.specs.Job.{track, Header, headerWord, headerOf, within, withinLimits, rowBytes, rowsAt, marksAt, proposalsAt, wholeLength, laidOut, section, rowsTable, tableOfJob, marksOfJob, proposalsOfJob, Lent, workRoom, triangleRoom, roomShort, written, layoutTests, roomTests, tableTests, markTests, jobTests, Result, accepted, refused, verdictOn, run}
 use Rattle.rules.specs.Laws.Truth.{is-true, not-both, and-both, not-reads, and-reads, or-reads, eqb-reads, ltb-reads, leb-reads, same-or-not}
-use Rattle.rules.specs.Laws.Below.{lowest-none}
-use Rattle.rules.specs.Laws.First.{Reads, FirstOf, conditionAt, first-reads, none-reads, given-reads, match-below, match-zero, match-none}
+use Rattle.rules.specs.Laws.Below.{lowest-none, none-any}
+use Rattle.rules.specs.Laws.First.{Reads, FirstOf, conditionAt, first-reads, none-reads, given-reads, given-none, match-parts, match-below, match-zero, match-none}
 use Rattle.rules.specs.Reading.Rows.{First, lowest-first, Rising, rising-reads, IdsBelow, ids-below-reads, Before, before-reads, Holds, holds-reads}
 use Rattle.rules.specs.Reading.Closed.{TrianglesShared, triangles-read, EdgesJoined, edges-read, VerticesJoined, vertices-read, Closed}
 use Rattle.rules.specs.Reading.Skin.{SkinTriangle, far-reads, skin-vertex-reads}
@@ -283,6 +284,65 @@ module _ (job : List ℕ) (lent : Lent) where
   accepted-exactly =
       let (forth, back) = none-reads 1 (zero-lt-suc 0) (jobTests track job lent) (jobConditions job lent) codes-read in
       (λ e. forth (sym run-code ∙ e), λ off. run-code ∙ back off)
+
+  -- ---- what an accepted job keeps
+
+  module _ (ran : run track job lent .code ≡ 0) where
+    layout-passed : firstMatch 1 (layoutTests track job) .code ≡ 0
+    unfolding verdictOn jobTests
+    layout-passed = match-parts 1 (zero-lt-suc 0) (layoutTests track job) _ (sym run-code ∙ ran) .0
+
+    later-passed : firstMatch 4 (roomTests (headerOf job) lent ++ (tableTests (tableOfJob track job) (headerOf job .ids) ++ markTests (tableOfJob track job) (headerOf job .ids) (marksOfJob track job))) .code ≡ 0
+    unfolding verdictOn jobTests layoutTests
+    later-passed = match-parts 1 (zero-lt-suc 0) (layoutTests track job) _ (sym run-code ∙ ran) .1
+
+    tables-passed : firstMatch 5 (tableTests (tableOfJob track job) (headerOf job .ids) ++ markTests (tableOfJob track job) (headerOf job .ids) (marksOfJob track job)) .code ≡ 0
+    unfolding roomTests
+    tables-passed = match-parts 4 (zero-lt-suc 3) (roomTests (headerOf job) lent) _ later-passed .1
+
+    pub accepted-closed : Closed (tableOfJob track job) (headerOf job .ids)
+    accepted-closed = closed-reads (tableOfJob track job) (headerOf job .ids) 5 (zero-lt-suc 4) .0 (match-parts 5 (zero-lt-suc 4) (tableTests (tableOfJob track job) (headerOf job .ids)) _ tables-passed .0)
+
+    marks-passed : firstMatch 10 (markTests (tableOfJob track job) (headerOf job .ids) (marksOfJob track job)) .code ≡ 0
+    unfolding tableTests
+    marks-passed = match-parts 5 (zero-lt-suc 4) (tableTests (tableOfJob track job) (headerOf job .ids)) _ tables-passed .1
+
+    -- each mark is 0 or 1
+    pub accepted-marks : (r : ℕ) → r < tableOfJob track job .rows → (getD (marksOfJob track job) r 0 ≡ 0) ⊎ (getD (marksOfJob track job) r 0 ≡ 1)
+    unfolding markTests
+    accepted-marks r l =
+        let (n10, _) = match-zero 10 (zero-lt-suc 9) _ _ marks-passed in
+        or-reads (eqb-reads (getD (marksOfJob track job) r 0) 0) (eqb-reads (getD (marksOfJob track job) r 0) 1) .0
+        (each-row (tableOfJob track job) (headerOf job .ids) (λ r. eqb (getD (marksOfJob track job) r 0) 0 || eqb (getD (marksOfJob track job) r 0) 1) n10 r l)
+
+    -- the starting skin is clean
+    pub accepted-clean : clean (tableOfJob track job) (insideIn (marksOfJob track job)) (headerOf job .ids) ≡ true
+    unfolding markTests clean
+    accepted-clean =
+        let (_, e11) = match-zero 10 (zero-lt-suc 9) _ _ marks-passed in
+        let (_, e12) = match-zero 11 (zero-lt-suc 10) _ _ e11 in
+        let (n12, _) = match-zero 12 (zero-lt-suc 11) _ _ e12 in
+        ap not (none-any (headerOf job .ids) (ringless (tableOfJob track job) (insideIn (marksOfJob track job)) (headerOf job .ids))
+        (lowest-none (headerOf job .ids) (ringless (tableOfJob track job) (insideIn (marksOfJob track job)) (headerOf job .ids)) n12))
+
+    -- the header is within its limits and laid out as it says
+    pub accepted-header : WithinLimits (headerOf job) × LaidOut (headerOf job) job
+    unfolding layoutTests
+    accepted-header =
+        let (_, e2) = match-zero 1 (zero-lt-suc 0) _ _ layout-passed in
+        let (n2, e3) = match-zero 2 (zero-lt-suc 1) _ _ e2 in
+        let (n3, _) = match-zero 3 (zero-lt-suc 2) _ _ e3 in (
+          limits-read (headerOf job) .0 (not-false (withinLimits (headerOf job)) (given-none (not (withinLimits (headerOf job))) n2)),
+          laid-out-reads (headerOf job) job .0 (not-false (laidOut track (headerOf job) job) (given-none (not (laidOut track (headerOf job) job)) n3)),
+        )
+
+    -- one mark for each row
+    pub accepted-length : length (marksOfJob track job) ≡ tableOfJob track job .rows
+    unfolding marksOfJob section marksAt rowBytes tableOfJob rowsTable tableOf
+    accepted-length =
+        let (_, laid) = accepted-header in
+        length-take-le (headerOf job .rows) (drop (32 + 16 * headerOf job .rows) job)
+        (rw (length-drop (32 + 16 * headerOf job .rows) job) (omega (arith, laid .1, laid .0 .0 .1)))
 
   -- ---- what a refusal leaves
 
