@@ -2,21 +2,20 @@
 -- its triangles on the skin, this is Lhuillier's Theorem 4.
 use mathlib.Core.Path.{_≡_, refl, sym, ap, _∙_, subst}
 use mathlib.Core.Logic.{_⊎_, inl, inr, ⊎-elim, _↔_, _≢_, Ne·symm}
-use mathlib.Core.Bool.{Bool, true, false, not}
+use mathlib.Core.Bool.{Bool, true}
 use Prim.Native.Nat.{ℕ, _<_}
 use native.Mathlib.Omega.{arith}
 use lib.Dec.{lit<}
 use Rattle.rules.specs.Table.{Table, holds}
 use Rattle.rules.specs.Skin.{onSkin, farEdge}
 use Rattle.rules.specs.Laws.Truth.{true-or-false, not-both, same-or-not}
-use Rattle.rules.specs.Laws.Count.{ExactlyOne, ExactlyTwo}
-use Rattle.rules.specs.Laws.Shape.{fourth-corner, two-others}
+use Rattle.rules.specs.Laws.Shape.{two-others}
 use Rattle.rules.specs.Reading.Rows.{one-corner, Holds, holds-reads}
 use Rattle.rules.specs.Reading.Closed.{Closed}
 use Rattle.rules.specs.Reading.Skin.{Different, skin-far}
 use Rattle.manifold.specs.Facet.{FlipAt, flip-back}
 use Rattle.manifold.specs.Ring.{Edges, Ring, Empty, empty-ring, ring-along, End, Corners, Flipped, three-in, two-in, one-in, one-in-free, none-in, none-in-empty}
-use Rattle.manifold.specs.Triangle.{Skin, Rings, skin-back, skin-swap, skin-kept, skin-flipped, far-skin}
+use Rattle.manifold.specs.Triangle.{Skin, Rings, skin-swap, skin-kept, skin-flipped, far-skin}
 
 -- ---- the four corners of a row, in any order
 
@@ -61,27 +60,6 @@ four-at i li = ⊎-elim (λ (e : i ≡ 0). from 1 (lit< tt) (λ (q : i ≡ 1). o
     from : (j : ℕ) → j < 4 → i ≢ j → (j : ℕ) × (k : ℕ) × (l : ℕ) × Four i j k l
     from j lj ij = let (k, l, o) = four-from i j li lj ij in (j, k, l, o)
 
--- and any three
-pub four-with : (i j l : ℕ) → i < 4 → j < 4 → l < 4 → i ≢ j → i ≢ l → j ≢ l → (k : ℕ) × Four i j k l
-four-with i j l li lj ll ij il jl =
-    let x = fourth-corner i j l li lj ll ij il jl in (
-      x .one,
-      record {
-        i-below = li;
-        j-below = lj;
-        k-below = x .below;
-        l-below = ll;
-        ij = ij;
-        ik = Ne·symm (x .is .0);
-        il = il;
-        jk = Ne·symm (x .is .1);
-        jl = jl;
-        kl = x .is .2;
-        only = λ m lm. ⊎-elim inl (λ mi. ⊎-elim (λ e. inr (inl e)) (λ mj.
-            ⊎-elim (λ e. inr (inr (inr e))) (λ ml. inr (inr (inl (x .only m lm (mi, mj, ml))))) (same-or-not m l)) (same-or-not m j)) (same-or-not m i);
-      },
-    )
-
 -- two corners next to each other change places
 pub swap-jk : {i j k l : ℕ} → Four i j k l → Four i k j l
 swap-jk o = record {
@@ -98,6 +76,21 @@ swap-jk o = record {
   only = λ m lm. ⊎-elim inl (⊎-elim (λ e. inr (inr (inl e))) (⊎-elim (λ e. inr (inl e)) (λ e. inr (inr (inr e))))) (o .only m lm);
 }
 
+pub swap-ij : {i j k l : ℕ} → Four i j k l → Four j i k l
+swap-ij o = record {
+  i-below = o .j-below;
+  j-below = o .i-below;
+  k-below = o .k-below;
+  l-below = o .l-below;
+  ij = Ne·symm (o .ij);
+  ik = o .jk;
+  il = o .jl;
+  jk = o .ik;
+  jl = o .il;
+  kl = o .kl;
+  only = λ m lm. ⊎-elim (λ e. inr (inl e)) (⊎-elim inl (λ e. inr (inr e))) (o .only m lm);
+}
+
 pub swap-kl : {i j k l : ℕ} → Four i j k l → Four i j l k
 swap-kl o = record {
   i-below = o .i-below;
@@ -112,6 +105,12 @@ swap-kl o = record {
   kl = Ne·symm (o .kl);
   only = λ m lm. ⊎-elim inl (⊎-elim (λ e. inr (inl e)) (⊎-elim (λ e. inr (inr (inr e))) (λ e. inr (inr (inl e))))) (o .only m lm);
 }
+
+-- what holds of each of the four holds of each corner
+by-four : {i j k l : ℕ} → Four i j k l → (P : ℕ → Type 0) → P i → P j → P k → P l → (m : ℕ) → m < 4 → P m
+by-four {i} {j} {k} {l} o P pi pj pk pl m lm =
+    ⊎-elim (λ (e : m ≡ i). subst P (sym e) pi)
+    (⊎-elim (λ (e : m ≡ j). subst P (sym e) pj) (⊎-elim (λ (e : m ≡ k). subst P (sym e) pk) (λ (e : m ≡ l). subst P (sym e) pl))) (o .only m lm)
 
 module _ (t : Table) (four : t .corners ≡ 4) {idCount : ℕ} (closed : Closed t idCount) {inside after : ℕ → Bool} {r : ℕ} (flip : FlipAt inside after r) (lr : r < t .rows) where
   -- the triangle that leaves out corner c is on the skin
@@ -229,61 +228,31 @@ module _ (t : Table) (four : t .corners ≡ 4) {idCount : ℕ} (closed : Closed 
         at-none-empty o (none j (o .j-below)) (none k (o .k-below)) (none l (o .l-below)) (rings (t .id r c))
 
   -- f = 1: the one that leaves out corner p
-  module _ (p : ℕ) (lp : p < 4) (left : Left p) (only : (c : ℕ) → c < 4 → Left c → c ≡ p) where
-    not-left : (c : ℕ) → c < 4 → p ≢ c → Left c → ⊥
-    not-left c l ne e = ne (sym (only c l e))
-
+  module _ {p j k l : ℕ} (o : Four p j k l) (left-p : Left p) (not-j : Left j → ⊥) (not-k : Left k → ⊥) (not-l : Left l → ⊥) where
+    -- no far edge of another vertex ends in p, since it would be one of p
     pub passes-1 : Rings t inside → Empty (Before p) → Rings t after
-    passes-1 rings free = everywhere rings (λ i li. ⊎-elim (here i) (apart i li) (same-or-not i p))
+    passes-1 rings free = everywhere rings (by-four o (λ i. Ring (After i)) (at-none o free)
+        (other j (swap-kl (swap-jk (swap-ij o))) not-k not-l) (other k (swap-kl (swap-jk (swap-ij (swap-jk o)))) not-j not-l)
+        (other l (swap-kl (swap-jk (swap-ij (swap-jk (swap-kl o))))) not-j not-k))
       where
-        here : (i : ℕ) → i ≡ p → Ring (After i)
-        here i e = let (j, k, l, o) = four-at p lp in subst (λ (c : ℕ). Ring (After c)) (sym e) (at-none o free)
-
-        -- no far edge of another vertex ends in p, since it would be one of p
-        apart : (i : ℕ) → i < 4 → i ≢ p → Ring (After i)
-        apart i li ne =
-            let (j, k, o) = four-from i p li lp ne in
-            let o′ = swap-kl (swap-jk o) in
-            at-one o′ (not-left j (o .k-below) (o .jk)) (not-left k (o .l-below) (o .jl)) left
-            (λ (b, s). free (t .id r i) b (skin-swap t inside (t .id r i) (t .id r p) b s)) (rings (t .id r i))
+        other : (i : ℕ) {a b : ℕ} → Four i a b p → (Left a → ⊥) → (Left b → ⊥) → Ring (After i)
+        other i o′ na nb = at-one o′ na nb left-p (λ (b, s). free (t .id r i) b (skin-swap t inside (t .id r i) (t .id r p) b s)) (rings (t .id r i))
 
     pub needs-1 : Rings t after → Empty (Before p)
-    needs-1 rings =
-        let (j, k, l, o) = four-at p lp in
-        at-none-empty o (not-left j (o .j-below) (o .ij)) (not-left k (o .k-below) (o .ik)) (not-left l (o .l-below) (o .il)) (rings (t .id r p))
+    needs-1 rings = at-none-empty o not-j not-k not-l (rings (t .id r p))
 
   -- f = 2: those that leave out corners p and q
-  module _ (p q : ℕ) (lp : p < 4) (lq : q < 4) (pq : p ≢ q) (left-p : Left p) (left-q : Left q) (only : (c : ℕ) → c < 4 → Left c → (c ≡ p) ⊎ (c ≡ q)) where
-    neither : (c : ℕ) → c < 4 → p ≢ c → q ≢ c → Left c → ⊥
-    neither c l np nq e = ⊎-elim (λ (g : c ≡ p). np (sym g)) (λ (g : c ≡ q). nq (sym g)) (only c l e)
-
+  module _ {p q k l : ℕ} (o : Four p q k l) (left-p : Left p) (left-q : Left q) (not-k : Left k → ⊥) (not-l : Left l → ⊥) where
+    -- at p and at q one edge was there, and the other must be no end; at k and l two were
     pub passes-2 : Rings t inside → (End (Before p) (t .id r q) → ⊥) → Rings t after
-    passes-2 rings free = everywhere rings (λ i li. ⊎-elim (at-p i) (λ ip. ⊎-elim (at-q i) (λ iq. elsewhere i li ip iq) (same-or-not i q)) (same-or-not i p))
-      where
-        -- at p and at q one edge is in the row: the other must be no end
-        at-p : (i : ℕ) → i ≡ p → Ring (After i)
-        at-p i e =
-            let (k, l, o) = four-from p q lp lq pq in
-            subst (λ (c : ℕ). Ring (After c)) (sym e)
-            (at-one (swap-kl (swap-jk o)) (neither k (o .k-below) (o .ik) (o .jk)) (neither l (o .l-below) (o .il) (o .jl)) left-q free (rings (t .id r p)))
-
-        at-q : (i : ℕ) → i ≡ q → Ring (After i)
-        at-q i e =
-            let (k, l, o) = four-from q p lq lp (Ne·symm pq) in
-            subst (λ (c : ℕ). Ring (After c)) (sym e)
-            (at-one (swap-kl (swap-jk o)) (neither k (o .k-below) (o .jk) (o .ik)) (neither l (o .l-below) (o .jl) (o .il)) left-p
-            (λ (b, s). free (b, skin-swap t inside (t .id r q) (t .id r p) b s)) (rings (t .id r q)))
-
-        -- at the other two both edges are
-        elsewhere : (i : ℕ) → i < 4 → i ≢ p → i ≢ q → Ring (After i)
-        elsewhere i li ip iq =
-            let (m, o) = four-with i p q li lp lq ip iq pq in
-            at-two o left-p (neither m (o .k-below) (o .jk) (Ne·symm (o .kl))) left-q (rings (t .id r i))
+    passes-2 rings free = everywhere rings (by-four o (λ i. Ring (After i))
+        (at-one (swap-kl (swap-jk o)) not-k not-l left-q free (rings (t .id r p)))
+        (at-one (swap-kl (swap-jk (swap-ij o))) not-k not-l left-p (λ (b, s). free (b, skin-swap t inside (t .id r q) (t .id r p) b s)) (rings (t .id r q)))
+        (at-two (swap-kl (swap-ij (swap-jk o))) left-p not-l left-q (rings (t .id r k)))
+        (at-two (swap-kl (swap-ij (swap-jk (swap-kl o)))) left-p not-k left-q (rings (t .id r l))))
 
     pub needs-2 : Rings t after → End (Before p) (t .id r q) → ⊥
-    needs-2 rings =
-        let (k, l, o) = four-from p q lp lq pq in
-        at-one-free (swap-kl (swap-jk o)) (neither k (o .k-below) (o .ik) (o .jk)) (neither l (o .l-below) (o .il) (o .jl)) (rings (t .id r p))
+    needs-2 rings = at-one-free (swap-kl (swap-jk o)) not-k not-l (rings (t .id r p))
 
   -- f = 3 and f = 4: at most one triangle is not on the skin
   module _ (most : (a b : ℕ) → a < 4 → b < 4 → (Left a → ⊥) → (Left b → ⊥) → a ≡ b) where

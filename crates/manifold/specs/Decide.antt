@@ -2,23 +2,22 @@
 use mathlib.Core.Path.{_≡_, refl, sym, ap, _∙_, subst}
 use mathlib.Core.Logic.{_⊎_, inl, inr, ⊎-elim, _↔_, _≢_}
 use mathlib.Core.Bool.{Bool, true, false, not, true≢false, false≢true}
-use Prim.Native.Nat.{ℕ, _+_, _≤_, _<_}
+use Prim.Native.Nat.{ℕ, _≤_, _<_}
 use native.Mathlib.Omega.{arith}
-use borrow.Author.Tests.{not-true}
 use Rattle.rules.specs.Below.{count}
 use Rattle.rules.specs.Table.{Table}
 use Rattle.rules.specs.Skin.{onSkin, clean}
 use Rattle.rules.specs.Cases.{passes}
 use Rattle.rules.specs.Laws.Truth.{not-both, is-false, is-true, same-test, same-or-not}
-use Rattle.rules.specs.Laws.Count.{ExactlyOne, ExactlyTwo, count-zero, count-one, count-two, count-not, count-without, without, is-without}
+use Rattle.rules.specs.Laws.Count.{count-zero, count-one, count-two, count-not, count-without, without, is-without}
 use Rattle.rules.specs.Reading.Rows.{one-corner, Holds}
 use Rattle.rules.specs.Reading.Closed.{Closed}
-use Rattle.rules.specs.Reading.Answers.{OtherSide, SomeOther, Refuses, Refuses0, Refuses1, Refuses2, passes-reads}
+use Rattle.rules.specs.Reading.Answers.{OtherSide, Refuses, passes-reads}
 use Rattle.manifold.specs.Facet.{FlipAt, same-mark}
-use Rattle.manifold.specs.Ring.{Ring, Empty, End}
+use Rattle.manifold.specs.Ring.{Empty, End}
 use Rattle.manifold.specs.Triangle.{On, Skin, Rings, clean-rings}
 use Rattle.manifold.specs.Sides.{skin-at-vertex, skin-at-edge}
-use Rattle.manifold.specs.Cases.{passes-0, needs-0, passes-1, needs-1, passes-2, needs-2, passes-more}
+use Rattle.manifold.specs.Cases.{four-from, four-at, passes-0, needs-0, passes-1, needs-1, passes-2, needs-2, passes-more}
 
 -- two that pass are at least two
 two-pass : (n : ℕ) (p : ℕ → Bool) (a b : ℕ) → a < n → b < n → p a ≡ true → p b ≡ true → a ≢ b → 2 ≤ count n p
@@ -28,6 +27,18 @@ two-pass n p a b la lb ta tb ne =
 module _ (t : Table) (four : t .corners ≡ 4) {idCount : ℕ} (closed : Closed t idCount) {inside after : ℕ → Bool} {r : ℕ} (flip : FlipAt inside after r) (lr : r < t .rows)
     -- an add of an outside row, or a remove of an inside row
     (adding : Bool) (this-side : inside r ≡ not adding) where
+  below-four : {c : ℕ} → c < t .corners → c < 4
+  below-four {c} l = subst (λ (n : ℕ). c < n) four l
+
+  below-corners : {c : ℕ} → c < 4 → c < t .corners
+  below-corners {c} l = subst (λ (n : ℕ). c < n) (sym four) l
+
+  -- ---- no row of the other side
+
+  -- no row of the other side has the property
+  abbrev NoOther : (ℕ → Type 0) → Type 0
+  NoOther P = (s : ℕ) → s < t .rows → OtherSide adding inside s → P s → ⊥
+
   other-differs : {s : ℕ} → OtherSide adding inside s → inside r ≢ inside s
   other-differs {s} o e = not-self adding (sym this-side ∙ e ∙ o)
     where
@@ -36,8 +47,11 @@ module _ (t : Table) (four : t .corners ≡ 4) {idCount : ℕ} (closed : Closed 
       not-self false = true≢false
 
   -- of the two rows of a skin triangle one is on the other side
-  other-row : {v a b : ℕ} → Skin t inside v a b → SomeOther t inside adding r (On t v a b)
-  other-row (_, s) = ⊎-elim (λ e. (s .one, s .one-below, e, s .one-on)) (λ ne. (s .two, s .two-below, second (inside (s .one)) (inside (s .two)) adding (s .marks-differ) ne, s .two-on)) (same-mark (inside (s .one)) adding)
+  on-other : {P : ℕ → Type 0} → NoOther P → {v a b : ℕ} → ((z : ℕ) → On t v a b z → P z) → Skin t inside v a b → ⊥
+  on-other none has (_, s) =
+      ⊎-elim (λ e. none (s .one) (s .one-below) e (has (s .one) (s .one-on)))
+      (λ ne. none (s .two) (s .two-below) (second (inside (s .one)) (inside (s .two)) adding (s .marks-differ) ne) (has (s .two) (s .two-on)))
+      (same-mark (inside (s .one)) adding)
     where
       second : (x y z : Bool) → x ≢ y → x ≢ z → y ≡ z
       second true true z n m = absurd (n refl)
@@ -47,29 +61,65 @@ module _ (t : Table) (four : t .corners ≡ 4) {idCount : ℕ} (closed : Closed 
       second false true false n m = absurd (m refl)
       second false false z n m = absurd (n refl)
 
-  below-four : {c : ℕ} → c < t .corners → c < 4
-  below-four {c} l = subst (λ (n : ℕ). c < n) four l
+  -- a vertex of the row is off the skin exactly if no row of the other side holds it
+  free-vertex : {c : ℕ} → c < 4 → NoOther (λ s. Holds t s (t .id r c)) ↔ Empty (Skin t inside (t .id r c))
+  free-vertex {c} l = (
+    λ none a b skin. on-other none (λ z h. h .0) skin,
+    λ empty s ls o h. let (a, b, skin) = skin-at-vertex t four closed inside lr ls (c, below-corners l, refl) h (other-differs o) in empty a b skin,
+  )
 
-  below-corners : {c : ℕ} → c < 4 → c < t .corners
-  below-corners {c} l = subst (λ (n : ℕ). c < n) (sym four) l
+  -- and so is an edge
+  free-edge : {p q : ℕ} → p < 4 → q < 4 → p ≢ q
+      → NoOther (λ s. Holds t s (t .id r p) × Holds t s (t .id r q)) ↔ (End (Skin t inside (t .id r p)) (t .id r q) → ⊥)
+  free-edge {p} {q} lp lq ne = (
+    λ none (b, skin). on-other none (λ z h. (h .0, h .1 .0)) skin,
+    λ empty s ls o h.
+        empty (skin-at-edge t four closed inside (λ (e : t .id r p ≡ t .id r q). ne (one-corner t (closed .rising r lr) p q (below-corners lp) (below-corners lq) e)) lr ls
+        ((p, below-corners lp, refl), (q, below-corners lq, refl)) h (other-differs o)),
+  )
 
-  -- ---- what refuses would break a ring
+  -- ---- by the skin triangles of the row
 
-  refused : Rings t after → Refuses t inside adding r → ⊥
-  refused rings (inl (none, (c, lc, (s, ls, o, h)))) =
-      let (a, b, skin) = skin-at-vertex t four closed inside lr ls (c, lc, refl) h (other-differs o) in
-      needs-0 t four closed flip lr (λ c l. none c (below-corners l)) rings c (below-four lc) a b skin
-  refused rings (inr (inl (x, (s, ls, o, h)))) =
-      let (a, b, skin) = skin-at-vertex t four closed inside lr ls (x .one, x .below, refl) h (other-differs o) in
-      needs-1 t four closed flip lr (x .one) (below-four (x .below)) (x .is) (λ c l. x .only c (below-corners l)) rings a b skin
-  refused rings (inr (inr (x, (s, ls, o, (h, k))))) =
-      let differ : t .id r (x .one) ≢ t .id r (x .two) =
-      λ (e : t .id r (x .one) ≡ t .id r (x .two)). x .differ (one-corner t (closed .rising r lr) (x .one) (x .two) (x .one-below) (x .two-below) e)
-      in
-      needs-2 t four closed flip lr (x .one) (x .two) (below-four (x .one-below)) (below-four (x .two-below)) (x .differ) (x .one-is) (x .two-is) (λ c l. x .only c (below-corners l)) rings
-      (skin-at-edge t four closed inside differ lr ls ((x .one, x .one-below, refl), (x .two, x .two-below, refl)) (h, k) (other-differs o))
+  -- the triangle that leaves out corner c is on the skin
+  abbrev Left : ℕ → Type 0
+  Left c = onSkin t inside r c ≡ true
 
-  -- ---- what is not refused keeps them all
+  case-0 : Rings t inside → ((c : ℕ) → c < 4 → Left c → ⊥) → Rings t after ↔ ((c : ℕ) → c < 4 → NoOther (λ s. Holds t s (t .id r c)))
+  case-0 rings none = (
+    λ after-rings c l. free-vertex l .1 (needs-0 t four closed flip lr none after-rings c l),
+    λ free. passes-0 t four closed flip lr none rings (λ c l. free-vertex l .0 (free c l)),
+  )
+
+  case-1 : Rings t inside → {p : ℕ} → p < 4 → Left p → ((c : ℕ) → c < 4 → Left c → c ≡ p) → Rings t after ↔ NoOther (λ s. Holds t s (t .id r p))
+  case-1 rings {p} lp left only =
+      let (j, k, l, o) = four-at p lp in
+      let off : (c : ℕ) → c < 4 → p ≢ c → Left c → ⊥ = λ c l ne e. ne (sym (only c l e)) in (
+        λ after-rings.
+            free-vertex lp .1 (needs-1 t four closed flip lr o left (off j (o .j-below) (o .ij)) (off k (o .k-below) (o .ik)) (off l (o .l-below) (o .il)) after-rings),
+        λ free.
+            passes-1 t four closed flip lr o left (off j (o .j-below) (o .ij)) (off k (o .k-below) (o .ik)) (off l (o .l-below) (o .il)) rings (free-vertex lp .0 free),
+      )
+
+  case-2 : Rings t inside → {p q : ℕ} → p < 4 → q < 4 → p ≢ q → Left p → Left q → ((c : ℕ) → c < 4 → Left c → (c ≡ p) ⊎ (c ≡ q))
+      → Rings t after ↔ NoOther (λ s. Holds t s (t .id r p) × Holds t s (t .id r q))
+  case-2 rings {p} {q} lp lq ne left-p left-q only =
+      let (k, l, o) = four-from p q lp lq ne in
+      let off : (c : ℕ) → c < 4 → p ≢ c → q ≢ c → Left c → ⊥ = λ c l np nq e. ⊎-elim (λ (g : c ≡ p). np (sym g)) (λ (g : c ≡ q). nq (sym g)) (only c l e) in (
+        λ after-rings.
+            free-edge lp lq ne .1 (needs-2 t four closed flip lr o left-p left-q (off k (o .k-below) (o .ik) (o .jk)) (off l (o .l-below) (o .il) (o .jl)) after-rings),
+        λ free.
+            passes-2 t four closed flip lr o left-p left-q (off k (o .k-below) (o .ik) (o .jk)) (off l (o .l-below) (o .il) (o .jl)) rings (free-edge lp lq ne .0 free),
+      )
+
+  -- ---- by the definition of `rules`
+
+  refused : Rings t inside → Rings t after → Refuses t inside adding r → ⊥
+  refused rings after-rings (inl (none, (c, l, (s, ls, o, h)))) =
+      case-0 rings (λ c l. none c (below-corners l)) .0 after-rings c (below-four l) s ls o h
+  refused rings after-rings (inr (inl (x, (s, ls, o, h)))) =
+      case-1 rings (below-four (x .below)) (x .is) (λ c l. x .only c (below-corners l)) .0 after-rings s ls o h
+  refused rings after-rings (inr (inr (x, (s, ls, o, h)))) =
+      case-2 rings (below-four (x .one-below)) (below-four (x .two-below)) (x .differ) (x .one-is) (x .two-is) (λ c l. x .only c (below-corners l)) .0 after-rings s ls o h
 
   f : ℕ
   f = count (t .corners) (onSkin t inside r)
@@ -78,31 +128,28 @@ module _ (t : Table) (four : t .corners ≡ 4) {idCount : ℕ} (closed : Closed 
   unfolding f
   taken rings free = by-f (same-or-not f 0) (same-or-not f 1) (same-or-not f 2)
     where
+      too-many : f ≢ 0 → f ≢ 1 → f ≢ 2 → 2 ≤ count (t .corners) (λ c. not (onSkin t inside r c)) → ⊥
+      too-many n₀ n₁ n₂ h = omega (arith, count-not (t .corners) (onSkin t inside r), four)
+
       by-f : (f ≡ 0) ⊎ (f ≢ 0) → (f ≡ 1) ⊎ (f ≢ 1) → (f ≡ 2) ⊎ (f ≢ 2) → Rings t after
       by-f (inl z) _ _ =
-          let none : (c : ℕ) → c < t .corners → onSkin t inside r c ≡ true → ⊥ = λ c l e. not-both e (count-zero (t .corners) (onSkin t inside r) z c l) in
-          passes-0 t four closed flip lr (λ c l. none c (below-corners l)) rings (λ c l a b skin.
-          let (s, ls, o, h) = other-row skin in free (inl (none, (c, below-corners l, (s, ls, o, h .0)))))
+          let none : (c : ℕ) → c < t .corners → Left c → ⊥ = λ c l e. not-both e (count-zero (t .corners) (onSkin t inside r) z c l) in
+          case-0 rings (λ c l. none c (below-corners l)) .1 (λ c l s ls o h. free (inl (none, (c, below-corners l, (s, ls, o, h)))))
       by-f (inr _) (inl one) _ =
           let x = count-one (t .corners) (onSkin t inside r) one in
-          passes-1 t four closed flip lr (x .one) (below-four (x .below)) (x .is) (λ c l. x .only c (below-corners l)) rings (λ a b skin.
-          let (s, ls, o, h) = other-row skin in free (inr (inl (x, (s, ls, o, h .0)))))
+          case-1 rings (below-four (x .below)) (x .is) (λ c l. x .only c (below-corners l)) .1 (λ s ls o h. free (inr (inl (x, (s, ls, o, h)))))
       by-f (inr _) (inr _) (inl two) =
           let x = count-two (t .corners) (onSkin t inside r) two in
-          passes-2 t four closed flip lr (x .one) (x .two) (below-four (x .one-below)) (below-four (x .two-below)) (x .differ) (x .one-is) (x .two-is)
-          (λ c l. x .only c (below-corners l)) rings (λ (b, skin).
-          let (s, ls, o, h) = other-row skin in free (inr (inr (x, (s, ls, o, (h .0, h .1 .0))))))
+          case-2 rings (below-four (x .one-below)) (below-four (x .two-below)) (x .differ) (x .one-is) (x .two-is) (λ c l. x .only c (below-corners l)) .1
+          (λ s ls o h. free (inr (inr (x, (s, ls, o, h)))))
       by-f (inr n₀) (inr n₁) (inr n₂) =
           passes-more t four closed flip lr (λ a b la lb na nb.
-          ⊎-elim (λ e. e) (λ ne. absurd (too-many n₀ n₁ n₂ (two-pass (t .corners) (λ c. not (onSkin t inside r c)) a b (below-corners la) (below-corners lb) (ap not (is-false (onSkin t inside r a) na)) (ap not (is-false (onSkin t inside r b) nb)) ne)))
-          (same-or-not a b)) rings
-        where
-          too-many : f ≢ 0 → f ≢ 1 → f ≢ 2 → 2 ≤ count (t .corners) (λ c. not (onSkin t inside r c)) → ⊥
-          too-many n₀ n₁ n₂ h = omega (arith, count-not (t .corners) (onSkin t inside r), four)
+          ⊎-elim (λ e. e) (λ ne. absurd (too-many n₀ n₁ n₂ (two-pass (t .corners) (λ c. not (onSkin t inside r c)) a b (below-corners la) (below-corners lb)
+          (ap not (is-false (onSkin t inside r a) na)) (ap not (is-false (onSkin t inside r b) nb)) ne))) (same-or-not a b)) rings
 
   -- Lhuillier's Theorem 4 and the remark after it
   pub cases-decide : clean t inside idCount ≡ true → passes t inside adding r ≡ clean t after idCount
   cases-decide e =
       same-test (passes t inside adding r) (clean t after idCount)
       (λ p. clean-rings t four closed after .1 (taken (clean-rings t four closed inside .0 e) (λ x. not-both p (passes-reads t inside adding r .1 x))))
-      (λ q. is-true (passes t inside adding r) (λ n. refused (clean-rings t four closed after .0 q) (passes-reads t inside adding r .0 n)))
+      (λ q. is-true (passes t inside adding r) (λ n. refused (clean-rings t four closed inside .0 e) (clean-rings t four closed after .0 q) (passes-reads t inside adding r .0 n)))

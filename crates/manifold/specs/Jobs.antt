@@ -42,5 +42,5 @@ module _ (job : List ℕ) (lent : Lent) (accepted : run track job lent .code ≡
 
   -- The taken proposals, run backwards with add and remove exchanged, are all taken and bring back the start.
   pub job-backwards : AllTaken (tableOfJob track job) (finalMarks (tableOfJob track job) (marksOfJob track job) (proposalsOfJob track job))
-    (undoing (tableOfJob track job) (marksOfJob track job) (proposalsOfJob track job)) (marksOfJob track job)
+      (undoing (tableOfJob track job) (marksOfJob track job) (proposalsOfJob track job)) (marksOfJob track job)
   job-backwards = backwards table four (accepted-closed job lent accepted) (marksOfJob track job) start (accepted-clean job lent accepted) (proposalsOfJob track job)

@@ -5,7 +5,7 @@
 --     two       S′ is a ring
 --     one       S′ is a ring exactly if the corner opposite that edge is no end of S
 --     none      S′ is a ring exactly if S is empty
-use mathlib.Core.Path.{_≡_, refl, sym, ap, _∙_, subst}
+use mathlib.Core.Path.{_≡_, refl, sym, _∙_, subst}
 use mathlib.Core.Logic.{_⊎_, inl, inr, ⊎-elim, _↔_, _≢_, Ne·symm}
 use Prim.Native.Nat.{ℕ, _<_}
 use Rattle.rules.specs.Laws.Truth.{same-or-not}

@@ -9,7 +9,7 @@ use Prim.Native.Nat.{ℕ}
 use Rattle.rules.specs.Below.{count}
 use Rattle.rules.specs.Table.{Table, tableOf}
 use Rattle.rules.specs.Skin.{onSkin, clean, skin}
-use Rattle.rules.specs.First.{Verdict, firstMatch}
+use Rattle.rules.specs.First.{firstMatch}
 use Rattle.rules.specs.Proposals.{Proposal, insideIn, answer}
 use Rattle.rules.specs.Job.{tableTests}
 use Rattle.rules.specs.Worked.{ran, row, marked}

@@ -3,12 +3,12 @@
 use mathlib.Core.Path.{_≡_, refl, sym, ap, _∙_, subst}
 use mathlib.Core.Logic.{_⊎_, inl, inr, ⊎-elim, _≢_, Ne·symm}
 use mathlib.Core.Bool.{Bool}
-use Prim.Native.Nat.{ℕ, _<_}
+use Prim.Native.Nat.{ℕ, _≤_, _<_}
 use native.Mathlib.Omega.{arith}
-use lib.Dec.{lit<}
+use lib.Dec.{lit≤}
 use Rattle.rules.specs.Table.{Table}
 use Rattle.rules.specs.Laws.Truth.{same-or-not}
-use Rattle.rules.specs.Laws.Count.{ExactlyOne, ExactlyTwo}
+use Rattle.rules.specs.Laws.Count.{ExactlyTwo}
 use Rattle.rules.specs.Laws.Joined.{Chain, stay, step, chain-starts}
 use Rattle.rules.specs.Laws.Shape.{fourth-corner, two-others}
 use Rattle.rules.specs.Reading.Rows.{Rising, one-corner, Holds}
@@ -16,7 +16,6 @@ use Rattle.rules.specs.Reading.Neighbours.{Side, Neighbours}
 use Rattle.rules.specs.Reading.Closed.{Closed, vertex-rule, edge-rule}
 use Rattle.rules.specs.Reading.Skin.{Different}
 use Rattle.manifold.specs.Facet.{same-mark}
-use Rattle.manifold.specs.Ring.{Empty, End}
 use Rattle.manifold.specs.Triangle.{On, Skin}
 
 -- ---- the walk, for any number of corners
@@ -48,6 +47,22 @@ module _ (t : Table) (P : ℕ → Type 0) (inside : ℕ → Bool) where
         marks-differ = d;
       }) (same-mark (inside x) (inside y))
 
+-- ---- the facet between two neighbours, for any number of corners
+
+module _ (t : Table) where
+  -- a row that holds the left-out id too holds every facet
+  any-side : {x c y : ℕ} → Side t x c y → Holds t y (t .id x c) → (d : ℕ) → Side t x d y
+  any-side {x} {c} {y} s h d k l _ = ⊎-elim (λ (e : k ≡ c). subst (λ (j : ℕ). Holds t y (t .id x j)) (sym e) h) (λ ne. s k l ne) (same-or-not k c)
+
+  -- two neighbours that hold the id at corner i share a facet with that id
+  pub facet-with : {x y i : ℕ} → 2 ≤ t .corners → Neighbours t x y → Holds t y (t .id x i) → (c : ℕ) × (c < t .corners) × (c ≢ i) × Side t x c y
+  facet-with {x} {y} {i} more (_, (c, l, s)) h = ⊎-elim same (λ ne. (c, l, ne, s)) (same-or-not c i)
+    where
+      same : c ≡ i → (d : ℕ) × (d < t .corners) × (d ≢ i) × Side t x d y
+      same e =
+          let all : (d : ℕ) → Side t x d y = any-side s (subst (λ (k : ℕ). Holds t y (t .id x k)) (sym e) h) in
+          ⊎-elim (λ (z : i ≡ 0). (1, more, λ (q : 1 ≡ i). omega arith, all 1)) (λ z. (0, omega arith, Ne·symm z, all 0)) (same-or-not i 0)
+
 -- ---- the triangle between two neighbours
 
 module _ (t : Table) (four : t .corners ≡ 4) where
@@ -57,16 +72,12 @@ module _ (t : Table) (four : t .corners ≡ 4) where
   below-corners : {c : ℕ} → c < 4 → c < t .corners
   below-corners {c} l = subst (λ (n : ℕ). c < n) (sym four) l
 
-  -- a row that holds the left-out id too holds all triangles
-  any-side : {x c y : ℕ} → Side t x c y → Holds t y (t .id x c) → (d : ℕ) → Side t x d y
-  any-side {x} {c} {y} s h d k l _ = ⊎-elim (λ (e : k ≡ c). subst (λ (j : ℕ). Holds t y (t .id x j)) (sym e) h) (λ ne. s k l ne) (same-or-not k c)
-
   -- two neighbours that hold an edge share a triangle at that edge
   shared-at-edge : {x y p q : ℕ} → Rising t x → p ≢ q → Neighbours t x y → Holds t x p × Holds t x q → Holds t y p × Holds t y q
       → (b : ℕ) × Different p q b × On t p q b x × On t p q b y
   shared-at-edge {x} {y} {p} {q} up pq (_, (c, l, s)) ((i, li, ei), (j, lj, ej)) (yp, yq) =
-      ⊎-elim (λ (e : c ≡ i). left (others .one) (others .one-below) (others .one-is) (any-side s (held i c e yp ei) (others .one))) (λ ci.
-      ⊎-elim (λ (e : c ≡ j). left (others .one) (others .one-below) (others .one-is) (any-side s (held j c e yq ej) (others .one)))
+      ⊎-elim (λ (e : c ≡ i). left (others .one) (others .one-below) (others .one-is) (any-side t s (held i c e yp ei) (others .one))) (λ ci.
+      ⊎-elim (λ (e : c ≡ j). left (others .one) (others .one-below) (others .one-is) (any-side t s (held j c e yq ej) (others .one)))
       (λ cj. left c (below-four l) (ci, cj) s) (same-or-not c j)) (same-or-not c i)
     where
       ij : i ≢ j
@@ -95,22 +106,21 @@ module _ (t : Table) (four : t .corners ≡ 4) where
 
   -- two neighbours that hold a vertex share a triangle at it
   shared-at-vertex : {x y v : ℕ} → Rising t x → Neighbours t x y → Holds t x v → Holds t y v → (a : ℕ) × (b : ℕ) × Different v a b × On t v a b x × On t v a b y
-  shared-at-vertex {x} {y} {v} up (ne, (c, l, s)) (i, li, ei) yv = with-corner (second (same-or-not i c))
-    where
-      -- a corner that is neither that of v nor left out
-      second : (i ≡ c) ⊎ (i ≢ c) → (j : ℕ) × (j < 4) × (j ≢ i) × (j ≢ c)
-      second (inl e) =
-          ⊎-elim (λ (z : i ≡ 0). (1, lit< tt, λ (q : 1 ≡ i). omega arith, λ (q : 1 ≡ c). omega arith))
-          (λ z. (0, lit< tt, Ne·symm z, λ (q : 0 ≡ c). z (e ∙ sym q))) (same-or-not i 0)
-      second (inr ic) = let o = two-others i c (below-four li) (below-four l) ic in (o .one, o .one-below, o .one-is .0, o .one-is .1)
-
-      with-corner : (j : ℕ) × (j < 4) × (j ≢ i) × (j ≢ c) → (a : ℕ) × (b : ℕ) × Different v a b × On t v a b x × On t v a b y
-      with-corner (j, lj, ji, jc) =
-          let lj′ : j < t .corners = below-corners lj in
-          let (b, d, ox, oy) =
-          shared-at-edge up (λ (e : v ≡ t .id x j). ji (sym (one-corner t up i j li lj′ (ei ∙ e)))) (ne, (c, l, s)) ((i, li, ei), (j, lj′, refl)) (yv, s j lj′ jc)
-          in
-          (t .id x j, b, d, ox, oy)
+  shared-at-vertex {x} {y} {v} up n (i, li, ei) yv =
+      let (c, l, ci, s) = facet-with t (subst (λ (k : ℕ). 2 ≤ k) (sym four) (lit≤ tt)) n (subst (Holds t y) (sym ei) yv) in
+      let o = two-others i c (below-four li) (below-four l) (Ne·symm ci) in
+      let l₁ : o .one < t .corners = below-corners (o .one-below) in
+      let l₂ : o .two < t .corners = below-corners (o .two-below) in (
+        t .id x (o .one),
+        t .id x (o .two),
+        (
+          λ (e : v ≡ t .id x (o .one)). o .one-is .0 (sym (one-corner t up i (o .one) li l₁ (ei ∙ e))),
+          λ (e : v ≡ t .id x (o .two)). o .two-is .0 (sym (one-corner t up i (o .two) li l₂ (ei ∙ e))),
+          λ (e : t .id x (o .one) ≡ t .id x (o .two)). o .differ (one-corner t up (o .one) (o .two) l₁ l₂ e),
+        ),
+        ((i, li, ei), ((o .one, l₁, refl), (o .two, l₂, refl))),
+        (yv, (s (o .one) l₁ (o .one-is .1), s (o .two) l₂ (o .two-is .1))),
+      )
 
   -- ---- both sides
 

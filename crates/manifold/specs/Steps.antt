@@ -1,23 +1,23 @@
 -- Proposals: each answer, every step, and backwards.
 use mathlib.Core.Path.{_≡_, refl, sym, ap, ap₂, _∙_, subst}
 use mathlib.Core.Logic.{_⊎_, inl, inr, ⊎-elim, _↔_, _≢_}
-use mathlib.Core.Bool.{Bool, true, false, not, _||_, cond}
+use mathlib.Core.Bool.{Bool, true, false, not, cond}
 use mathlib.Core.List.{List, [], _∷_, _++_, map, reverse, reverse-cons}
-use Prim.Native.Nat.{ℕ, zero, suc, _≤_, _<_}
+use Prim.Native.Nat.{ℕ, zero, suc, _<_}
 use native.Mathlib.Nat.{lt-of-not-le, not-le-of-lt}
 use native.Mathlib.Omega.{arith}
 use lib.Dec.{eqb, lit<}
 use lib.ListN.{length, getD, set, take, replicate, length-append, length-set, replicate-append-replicate}
 use lib.Seq.{getD-set-same, getD-set-other, set-set, set-getD}
-use borrow.Author.Tests.{eqb-true, eq-eqb, ne-eqb, ltb-false, lt-ltb}
+use borrow.Author.Tests.{eq-eqb, ne-eqb}
 use Rattle.rules.specs.Below.{bit, only}
 use Rattle.rules.specs.Table.{Table}
 use Rattle.rules.specs.Skin.{clean}
 use Rattle.rules.specs.Cases.{passes}
 use Rattle.rules.specs.Proposals.{Proposal, insideIn, adds, answer, marksAfter, answersTo, finalMarks}
-use Rattle.rules.specs.Laws.Truth.{true-or-false, not-both, is-true, is-false, same-or-not}
+use Rattle.rules.specs.Laws.Truth.{not-both, is-true, is-false, same-or-not}
 use Rattle.rules.specs.Laws.Proposals.{answers-append, final-append}
-use Rattle.rules.specs.Laws.First.{FirstOf, conditionAt}
+use Rattle.rules.specs.Laws.First.{conditionAt}
 use Rattle.rules.specs.Reading.Rows.{Holds}
 use Rattle.rules.specs.Reading.Closed.{Closed}
 use Rattle.rules.specs.Reading.Answers.{answerConditions, answer-exactly, taken-exactly, passes-reads}

@@ -1,21 +1,20 @@
 -- Skin triangles by their three ids, in any order, and what flipping a row does to them.
-use mathlib.Core.Path.{_≡_, refl, sym, ap, _∙_, subst}
-use mathlib.Core.Logic.{_⊎_, inl, inr, ⊎-elim, _↔_, _≢_, Ne·symm}
-use mathlib.Core.Bool.{Bool, true, false, not}
+use mathlib.Core.Path.{_≡_, refl, sym, _∙_, subst}
+use mathlib.Core.Logic.{inl, inr, ⊎-elim, _↔_, _≢_, Ne·symm}
+use mathlib.Core.Bool.{Bool, true, false}
 use Prim.Native.Nat.{ℕ, _<_}
 use lib.Dec.{ltb}
 use borrow.Author.Tests.{ltb-true, lt-ltb}
-use Rattle.rules.specs.Table.{Table, side}
-use Rattle.rules.specs.Skin.{onSkin, farEdge, holdsThree, clean, skinVertex}
-use Rattle.rules.specs.Laws.Truth.{true-or-false, not-both, same-or-not}
-use Rattle.rules.specs.Laws.Count.{ExactlyTwo, TheOther}
-use Rattle.rules.specs.Laws.Joined.{Chain, chain-map}
+use Rattle.rules.specs.Table.{Table}
+use Rattle.rules.specs.Skin.{farEdge, clean, skinVertex}
+use Rattle.rules.specs.Laws.Truth.{true-or-false, not-both}
+use Rattle.rules.specs.Laws.Count.{TheOther}
 use Rattle.rules.specs.Reading.Rows.{Holds}
 use Rattle.rules.specs.Reading.Neighbours.{Side, side-reads}
 use Rattle.rules.specs.Reading.Closed.{Closed, across-is}
-use Rattle.rules.specs.Reading.Skin.{Different, TriangleIds, SkinTriangle, BetweenSides, skin-between-sides, three-reads, triangle-rows, triangle-of, skin-far, far-reads}
+use Rattle.rules.specs.Reading.Skin.{Different, TriangleIds, SkinTriangle, skin-between-sides, three-reads, triangle-rows, triangle-of, skin-far, far-reads}
 use Rattle.rules.specs.Reading.Ring.{OneRing, ring-map, FarEdge, clean-reads, off-skin-ring}
-use Rattle.manifold.specs.Facet.{FlipAt, flip-back, Flips, Split, split-flips, split-kept, split-map}
+use Rattle.manifold.specs.Facet.{FlipAt, flip-back, Split, split-flips, split-kept, split-map}
 use Rattle.manifold.specs.Ring.{Edges, Ring, empty-ring, ring-reads, Flipped}
 
 module _ (t : Table) where

@@ -1,7 +1,7 @@
 -- Laws of answering: a list of proposals, one part after the other.
 use mathlib.Core.Path.{_≡_, refl, ap}
 use mathlib.Core.List.{List, [], _∷_, _++_}
-use Prim.Native.Nat.{ℕ, _+_}
+use Prim.Native.Nat.{ℕ}
 use lib.ListN.{length}
 use Rattle.rules.specs.Table.{Table}
 use Rattle.rules.specs.Proposals.{Proposal, answer, marksAfter, answersTo, finalMarks}
