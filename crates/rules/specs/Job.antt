@@ -29,32 +29,32 @@ pub record Header : Type 0 where
   pub rows : ℕ
   pub proposals : ℕ
 
-unfoldable pub headerWord : List ℕ → ℕ → ℕ
+abbrev pub headerWord : List ℕ → ℕ → ℕ
 headerWord job i = word 4 job (4 * i)
 
 unfoldable pub headerOf : List ℕ → Header
 headerOf job = record { ids = headerWord job 0; rows = headerWord job 1; proposals = headerWord job 2 }
 
-unfoldable pub within : ℕ → ℕ → ℕ → Bool
+abbrev pub within : ℕ → ℕ → ℕ → Bool
 within least n greatest = leb least n && leb n greatest
 
 unfoldable pub withinLimits : Header → Bool
 withinLimits h = within 5 (h .ids) 1024 && within 5 (h .rows) 2048 && within 0 (h .proposals) 1024
 
-unfoldable pub rowBytes : Form → ℕ
+abbrev pub rowBytes : Form → ℕ
 rowBytes f = f .corners * f .width
 
 -- the offsets of rows, marks and proposals, and the whole length: for a track 32, 32 + 16N, 32 + 17N and 32 + 17N + 8P
-unfoldable pub rowsAt : ℕ
+abbrev pub rowsAt : ℕ
 rowsAt = 32
 
-unfoldable pub marksAt : Form → Header → ℕ
+abbrev pub marksAt : Form → Header → ℕ
 marksAt f h = 32 + rowBytes f * h .rows
 
-unfoldable pub proposalsAt : Form → Header → ℕ
+abbrev pub proposalsAt : Form → Header → ℕ
 proposalsAt f h = 32 + (rowBytes f + 1) * h .rows
 
-unfoldable pub wholeLength : Form → Header → ℕ
+abbrev pub wholeLength : Form → Header → ℕ
 wholeLength f h = 32 + (rowBytes f + 1) * h .rows + 8 * h .proposals
 
 -- words 3 to 7 are as the table of the header says, and word 6 is the length lent
@@ -65,7 +65,7 @@ laidOut f h job =
 
 -- ---- what the sections hold
 
-unfoldable pub section : List ℕ → ℕ → ℕ → List ℕ
+abbrev pub section : List ℕ → ℕ → ℕ → List ℕ
 section job start size = take size (drop start job)
 
 -- the table that the bytes of so many rows stand for
@@ -92,16 +92,19 @@ pub record Lent : Type 0 where
   pub triangles : List ℕ
   pub work : List ℕ
 
-unfoldable pub workRoom : Header → ℕ
+abbrev pub workRoom : Header → ℕ
 workRoom h = 4 * h .rows
 
-unfoldable pub triangleRoom : Header → ℕ
+abbrev pub triangleRoom : Header → ℕ
 triangleRoom h = 6 * h .rows
 
+-- rooms of these lengths for answers, final marks, triangles and work are short
+unfoldable pub shortRooms : Header → ℕ → ℕ → ℕ → ℕ → Bool
+shortRooms h answers finalMarks triangles work =
+    ltb answers (h .proposals) || ltb finalMarks (h .rows) || ltb triangles (triangleRoom h) || ltb work (workRoom h)
+
 unfoldable pub roomShort : Header → Lent → Bool
-roomShort h lent =
-    ltb (length (lent .answers)) (h .proposals) || ltb (length (lent .finalMarks)) (h .rows)
-    || ltb (length (lent .triangles)) (triangleRoom h) || ltb (length (lent .work)) (workRoom h)
+roomShort h lent = shortRooms h (length (lent .answers)) (length (lent .finalMarks)) (length (lent .triangles)) (length (lent .work))
 
 -- a buffer with these at its front, and all after them unchanged
 unfoldable pub written : List ℕ → List ℕ → List ℕ

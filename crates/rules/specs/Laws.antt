@@ -7,3 +7,4 @@ pub mod Joined
 pub mod Shape
 pub mod First
 pub mod Proposals
+pub mod Words

@@ -16,7 +16,7 @@ use Rattle.rules.specs.Table.{Table, tableOf, rising, idsBelow, before, 
 use Rattle.rules.specs.Skin.{onSkin, oneRing, ringless, clean}
 use Rattle.rules.specs.First.{Test, Verdict, firstMatch}
 use Rattle.rules.specs.Proposals.{insideIn}
-use Rattle.rules.specs.Job.{track, Header, headerWord, headerOf, within, withinLimits, rowBytes, rowsAt, marksAt, proposalsAt, wholeLength, laidOut, section, rowsTable, tableOfJob, marksOfJob, proposalsOfJob, Lent, workRoom, triangleRoom, roomShort, written, layoutTests, roomTests, tableTests, markTests, jobTests, Result, accepted, refused, verdictOn, run}
+use Rattle.rules.specs.Job.{track, Header, headerWord, headerOf, within, withinLimits, laidOut, rowsTable, tableOfJob, marksOfJob, proposalsOfJob, Lent, shortRooms, roomShort, written, layoutTests, roomTests, tableTests, markTests, jobTests, Result, accepted, refused, verdictOn, run}
 use Rattle.rules.specs.Laws.Truth.{is-true, not-both, and-both, not-reads, and-reads, or-reads, eqb-reads, ltb-reads, leb-reads, same-or-not}
 use Rattle.rules.specs.Laws.Below.{lowest-none, none-any}
 use Rattle.rules.specs.Laws.First.{Reads, FirstOf, conditionAt, first-reads, none-reads, given-reads, given-none, match-parts, match-below, match-zero, match-none}
@@ -34,8 +34,8 @@ Within least n greatest = (least ≤ n) × (n ≤ greatest)
 abbrev pub WithinLimits : Header → Type 0
 WithinLimits h = (Within 5 (h .ids) 1024 × Within 5 (h .rows) 2048) × Within 0 (h .proposals) 1024
 
-limits-read : (h : Header) → (withinLimits h ≡ true) ↔ WithinLimits h
-unfolding withinLimits within
+pub limits-read : (h : Header) → (withinLimits h ≡ true) ↔ WithinLimits h
+unfolding withinLimits
 limits-read h =
     and-reads (and-reads (range 5 (h .ids) 1024) (range 5 (h .rows) 2048)) (range 0 (h .proposals) 1024)
   where
@@ -48,8 +48,8 @@ LaidOut h job =
     (((((headerWord job 3 ≡ 32) × (headerWord job 4 ≡ 32 + 16 * h .rows)) × (headerWord job 5 ≡ 32 + 17 * h .rows))
     × (headerWord job 6 ≡ 32 + 17 * h .rows + 8 * h .proposals)) × (headerWord job 7 ≡ 0)) × (headerWord job 6 ≡ length job)
 
-laid-out-reads : (h : Header) (job : List ℕ) → (laidOut track h job ≡ true) ↔ LaidOut h job
-unfolding laidOut rowBytes rowsAt marksAt proposalsAt wholeLength
+pub laid-out-reads : (h : Header) (job : List ℕ) → (laidOut track h job ≡ true) ↔ LaidOut h job
+unfolding laidOut
 laid-out-reads h job =
     and-reads
     (and-reads
@@ -64,8 +64,8 @@ RoomShort h lent =
     (((length (lent .answers) < h .proposals) ⊎ (length (lent .finalMarks) < h .rows)) ⊎ (length (lent .triangles) < 6 * h .rows))
     ⊎ (length (lent .work) < 4 * h .rows)
 
-room-reads : (h : Header) (lent : Lent) → (roomShort h lent ≡ true) ↔ RoomShort h lent
-unfolding roomShort triangleRoom workRoom
+pub room-reads : (h : Header) (lent : Lent) → (roomShort h lent ≡ true) ↔ RoomShort h lent
+unfolding roomShort shortRooms
 room-reads h lent =
     or-reads
     (or-reads (or-reads (ltb-reads (length (lent .answers)) (h .proposals)) (ltb-reads (length (lent .finalMarks)) (h .rows)))
@@ -338,7 +338,7 @@ module _ (job : List ℕ) (lent : Lent) where
 
     -- one mark for each row
     pub accepted-length : length (marksOfJob track job) ≡ tableOfJob track job .rows
-    unfolding marksOfJob section marksAt rowBytes tableOfJob rowsTable tableOf
+    unfolding marksOfJob tableOfJob rowsTable tableOf
     accepted-length =
         let (_, laid) = accepted-header in
         length-take-le (headerOf job .rows) (drop (32 + 16 * headerOf job .rows) job)
@@ -369,7 +369,7 @@ module _ (job : List ℕ) (lent : Lent) where
 
   -- codes 5 to 12 leave zero in its first 4N words and the rest unchanged
   pub late-refusal : 5 ≤ run track job lent .code → run track job lent .left .work ≡ replicate (4 * headerOf job .rows) 0 ++ drop (4 * headerOf job .rows) (lent .work)
-  unfolding refused workRoom written
+  unfolding refused written
   late-refusal l =
       ap (λ (r : Result). r .left .work) (run-refused (λ (z : verdictOn track job lent .code ≡ 0). omega (arith, run-code)))
       ∙ rw (lt-leb (verdictOn track job lent .code) 4 (rw run-code at l), length-replicate {A = ℕ} (4 * headerOf job .rows) 0)

@@ -1,0 +1,97 @@
+-- What reading a header gives, and document 01's number for each answer.
+use mathlib.Core.Path.{_≡_, refl, sym, ap, _∙_}
+use mathlib.Core.Bool.{Bool, true, false, not, cond}
+use mathlib.Core.List.{List, [], _∷_}
+use Prim.Native.Nat.{ℕ, _≤_, _<_}
+use lib.Dec.{ltb}
+use borrow.Author.Tests.{lt-ltb, le-ltb, not-true, not-false}
+use lib.ListN.{length}
+use Rattle.rules.specs.Job as rules
+use Rattle.rules.specs.Below.{found}
+use Rattle.rules.specs.First.{given, firstMatch}
+use Rattle.rules.specs.Job.{track, headerOf, withinLimits, laidOut, layoutTests}
+use Rattle.rules.specs.Reading.Codes.{limits-read}
+use Rattle.job.specs.declared.Header.{Header}
+use Rattle.job.specs.declared.Reading.{Reading}
+use Rattle.job.specs.declared.Reading.the-variants.{Short, Limits, Layout, Laid}
+
+-- the header as `rules` has it
+abbrev pub meant : Header → rules.Header
+meant h = record { ids = h .ids; rows = h .rows; proposals = h .proposals }
+
+abbrev pub header : List ℕ → Header
+header job = let h = headerOf job in record { ids = h .ids; rows = h .rows; proposals = h .proposals }
+
+-- the number of each answer: the code, or 0
+abbrev pub codeOf : Reading → ℕ
+codeOf Short = 1
+codeOf Limits = 2
+codeOf Layout = 3
+codeOf (Laid h) = 0
+
+-- first match decides
+unfoldable pub readingOf : List ℕ → Reading
+readingOf job =
+    cond (ltb (length job) 32) Short
+    (cond (not (withinLimits (headerOf job))) Limits
+    (cond (not (laidOut track (headerOf job) job)) Layout
+    (Laid (header job))))
+
+-- ---- each answer from the tests that led to it
+
+pub reads-short : (job : List ℕ) → length job < 32 → Short ≡ readingOf job
+unfolding readingOf
+reads-short job l = rw (lt-ltb (length job) 32 l)
+
+-- h is the header that was read, and `limits` and `laid` what its tests gave
+module _ (job : List ℕ) (long : 32 ≤ length job) (h : Header) (is : h ≡ header job) (limits : Bool) (limited : limits ≡ withinLimits (meant h)) where
+  limits-are : limits ≡ withinLimits (headerOf job)
+  limits-are = limited ∙ ap (λ (x : Header). withinLimits (meant x)) is
+
+  pub reads-limits : not limits ≡ true → Limits ≡ readingOf job
+  unfolding readingOf
+  reads-limits f = rw (le-ltb (length job) 32 long, sym limits-are ∙ not-true limits f)
+
+  -- what the layout may rest on
+  pub within-rooms : not limits ≡ false → (32 ≤ length job) × (h .rows ≤ 2048) × (h .proposals ≤ 1024)
+  within-rooms t =
+      let ((_, (_, n)), (_, p)) = limits-read (meant h) .0 (sym limited ∙ not-false limits t) in (long, n, p)
+
+  module _ (t : not limits ≡ false) (laid : Bool) (laid-is : laid ≡ laidOut track (meant h) job) where
+    passed : withinLimits (headerOf job) ≡ true
+    passed = sym limits-are ∙ not-false limits t
+
+    laid-out : laid ≡ laidOut track (headerOf job) job
+    laid-out = laid-is ∙ ap (λ (x : Header). laidOut track (meant x) job) is
+
+    pub reads-layout : not laid ≡ true → Layout ≡ readingOf job
+    unfolding readingOf
+    reads-layout f = rw (le-ltb (length job) 32 long, passed, sym laid-out ∙ not-true laid f)
+
+    pub reads-laid : not laid ≡ false → Laid h ≡ readingOf job
+    unfolding readingOf
+    reads-laid u = rw (le-ltb (length job) 32 long, passed, sym laid-out ∙ not-false laid u) (ap Laid is)
+
+-- ---- the header that is read
+
+-- its code is the first that matches of 1 to 3
+pub reading-code : (job : List ℕ) → codeOf (readingOf job) ≡ firstMatch 1 (layoutTests track job) .code
+unfolding readingOf layoutTests firstMatch given found
+reading-code job = go (ltb (length job) 32) (not (withinLimits (headerOf job))) (not (laidOut track (headerOf job) job))
+  where
+    go : (a b c : Bool) → codeOf (cond a Short (cond b Limits (cond c Layout (Laid (header job))))) ≡ firstMatch 1 ((λ _. given a) ∷ (λ _. given b) ∷ (λ _. given c) ∷ []) .code
+    go true b c = refl
+    go false true c = refl
+    go false false true = refl
+    go false false false = refl
+
+-- what is laid out is the header of the job
+pub laid-header : (job : List ℕ) (h : Header) → readingOf job ≡ Laid h → h ≡ header job
+unfolding readingOf
+laid-header job h = go (ltb (length job) 32) (not (withinLimits (headerOf job))) (not (laidOut track (headerOf job) job))
+  where
+    go : (a b c : Bool) → cond a Short (cond b Limits (cond c Layout (Laid (header job)))) ≡ Laid h → h ≡ header job
+    go true b c e = cc
+    go false true c e = cc
+    go false false true e = cc
+    go false false false e = cc

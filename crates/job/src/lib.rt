@@ -1,0 +1,146 @@
+// The header of a job: counts, limits and offsets. Codes 1 to 4.
+use words::word_at;
+ghost use mathlib.Core.Path.{_≡_};
+ghost use Prim.Native.Nat.{_+_, _*_, _≤_, _<_};
+ghost use lib.ListN.{length};
+ghost use Rattle.rules.specs.Job.{track, headerWord, within, withinLimits, laidOut, marksAt, proposalsAt, wholeLength, shortRooms};
+ghost use Rattle.job.specs.Reading.{meant, header, readingOf};
+
+// V, N and P.
+pub struct Header {
+    pub ids: usize,
+    pub rows: usize,
+    pub proposals: usize,
+}
+
+pub enum Reading {
+    // Under 32 bytes.
+    Short,
+    // V, N or P outside its limits.
+    Limits,
+    // A word 3 to 7 differs from the table of the header, or word 6 from the length lent.
+    Layout,
+    Laid(Header),
+}
+
+impl Header {
+    pub const LEAST_IDS: usize = 5;
+
+    pub const MOST_IDS: usize = 1024;
+
+    pub const LEAST_ROWS: usize = 5;
+
+    pub const MOST_ROWS: usize = 2048;
+
+    pub const LEAST_PROPOSALS: usize = 0;
+
+    pub const MOST_PROPOSALS: usize = 1024;
+
+    fn within_limits(self) -> bool
+        ensures { λ r. ⌜ r ≡ withinLimits (meant self) ⌝ }
+    {
+        between(Self::LEAST_IDS, self.ids, Self::MOST_IDS)
+            & between(Self::LEAST_ROWS, self.rows, Self::MOST_ROWS)
+            & between(Self::LEAST_PROPOSALS, self.proposals, Self::MOST_PROPOSALS)
+    }
+
+    // Where the rows stand.
+    pub fn rows_at(self) -> usize
+        ensures { λ r. ⌜ r ≡ 32 ⌝ }
+    {
+        32
+    }
+
+    pub fn marks_at(self) -> usize
+        requires { ⌜ self .rows ≤ 2048 ⌝ }
+        ensures { λ r. ⌜ r ≡ marksAt track (meant self) ⌝ }
+    {
+        32 + 16 * self.rows
+    }
+
+    pub fn proposals_at(self) -> usize
+        requires { ⌜ self .rows ≤ 2048 ⌝ }
+        ensures { λ r. ⌜ r ≡ proposalsAt track (meant self) ⌝ }
+    {
+        32 + 17 * self.rows
+    }
+
+    pub fn whole_length(self) -> usize
+        requires { ⌜ (self .rows ≤ 2048) × (self .proposals ≤ 1024) ⌝ }
+        ensures { λ r. ⌜ r ≡ wholeLength track (meant self) ⌝ }
+    {
+        32 + 17 * self.rows + 8 * self.proposals
+    }
+}
+
+fn between(least: usize, n: usize, greatest: usize) -> bool
+    ensures { λ r. ⌜ r ≡ within least n greatest ⌝ }
+{
+    (least <= n) & (n <= greatest)
+}
+
+// Word i of the header.
+fn header_word(job: &[u8], i: usize) -> usize
+    requires { ⌜ (i < 8) × (32 ≤ length (now job)) ⌝ }
+    ensures { λ r. ⌜ r ≡ headerWord (now (job .entry)) i ⌝ }
+{
+    word_at(job, 4 * i) as usize
+}
+
+// V, N and P as words 0, 1 and 2 have them.
+fn header_of(job: &[u8]) -> Header
+    requires { ⌜ 32 ≤ length (now job) ⌝ }
+    ensures { λ r. ⌜ r ≡ header (now (job .entry)) ⌝ }
+{
+    Header {
+        ids: header_word(job, 0),
+        rows: header_word(job, 1),
+        proposals: header_word(job, 2),
+    }
+}
+
+fn laid_out(h: Header, job: &[u8]) -> bool
+    requires { ⌜ (32 ≤ length (now job)) × (h .rows ≤ 2048) × (h .proposals ≤ 1024) ⌝ }
+    ensures { λ r. ⌜ r ≡ laidOut track (meant h) (now (job .entry)) ⌝ }
+{
+    (header_word(job, 3) == h.rows_at())
+        & (header_word(job, 4) == h.marks_at())
+        & (header_word(job, 5) == h.proposals_at())
+        & (header_word(job, 6) == h.whole_length())
+        & (header_word(job, 7) == 0)
+        & (header_word(job, 6) == job.len())
+}
+
+// The header, or the first of the refusals 1 to 3.
+pub fn read(job: &[u8]) -> Reading
+    ensures { λ r. ⌜ r ≡ readingOf (now (job .entry)) ⌝ }
+{
+    if job.len() < 32 {
+        return Reading::Short;
+    }
+    let h = header_of(job);
+    if !h.within_limits() {
+        return Reading::Limits;
+    }
+    if !laid_out(h, job) {
+        return Reading::Layout;
+    }
+    Reading::Laid(h)
+}
+
+// Room for fewer answers, final marks, triangle words or work words than the job needs: code 4.
+pub fn room_short(
+    h: Header,
+    answers: usize,
+    final_marks: usize,
+    triangles: usize,
+    work: usize,
+) -> bool
+    requires { ⌜ h .rows ≤ 2048 ⌝ }
+    ensures { λ r. ⌜ r ≡ shortRooms (meant h) answers «final_marks» triangles work ⌝ }
+{
+    (answers < h.proposals)
+        | (final_marks < h.rows)
+        | (triangles < 6 * h.rows)
+        | (work < 4 * h.rows)
+}
