@@ -8,3 +8,4 @@ pub mod Shape
 pub mod First
 pub mod Proposals
 pub mod Words
+pub mod Written

@@ -88,6 +88,18 @@ none-lowest n p off = go (searched n p)
 pub lowest-or-none : (n : ℕ) (p : ℕ → Bool) → ((k : ℕ) × Lowest n p k) ⊎ ((k : ℕ) → k < n → p k ≡ false)
 lowest-or-none n p = ⊎-elim (λ (k, _, l). inl (k, l)) (λ (_, off). inr off) (searched n p)
 
+-- ---- a search in rising order: it has passed the numbers below i, and none of them passes the test
+
+pub searched-more : (i : ℕ) (p : ℕ → Bool) → lowest i p ≡ none → p i ≡ false → lowest (i + 1) p ≡ none
+unfolding orElse found
+searched-more i p e f = rw (lowest-more i p, e, f)
+
+pub search-stops : (n i : ℕ) (p : ℕ → Bool) → lowest i p ≡ none → i < n → p i ≡ true → lowest n p ≡ some i
+search-stops n i p e l t = is-lowest n p i (record { below = l; passes = t; first = lowest-none i p e })
+
+pub search-ends : (n i : ℕ) (p : ℕ → Bool) → lowest i p ≡ none → n ≤ i → lowest n p ≡ none
+search-ends n i p e l = none-lowest n p (λ k m. lowest-none i p e k (omega arith))
+
 -- ---- any and all
 
 pub any-here : (n : ℕ) (p : ℕ → Bool) (k : ℕ) → k < n → p k ≡ true → any n p ≡ true

@@ -3,7 +3,7 @@ use mathlib.Core.Path.{_≡_, refl, sym, ap, _∙_, subst}
 use mathlib.Core.Logic.{_⊎_, inl, inr, ⊎-elim, _≢_}
 use mathlib.Core.Bool.{Bool, true, false, not, _&&_, _||_, cond, Bool·beq, xor, true≢false}
 use Prim.Native.Nat.{ℕ, zero, suc, _+_, _*_, _≤_, _<_, zero-le}
-use native.Mathlib.Nat.{le-of-suc-le-suc, not-suc-le-zero, eq-or-lt-of-le, le-refl, le-step, lt-irrefl, add-zero, zero-add, add-le-add, zero-mul, suc-mul}
+use native.Mathlib.Nat.{le-of-suc-le-suc, not-suc-le-zero, eq-or-lt-of-le, le-refl, le-step, lt-irrefl, add-zero, zero-add, add-le-add, zero-mul, suc-mul, mul-suc, mul-zero, add-suc}
 use native.Mathlib.Numerals.{add-one}
 use native.Mathlib.Omega.{arith}
 use lib.Dec.{eqb}
@@ -81,6 +81,23 @@ bit-zero f = rw f
 pub none-count : (n : ℕ) (p : ℕ → Bool) → ((k : ℕ) → k < n → p k ≡ false) → count n p ≡ 0
 unfolding count
 none-count n p off = sum-zero n (λ k. bit (p k)) (λ k l. bit-zero (off k l))
+
+-- ---- block by block
+
+pub sum-append : (a b : ℕ) (f : ℕ → ℕ) → sum (a + b) f ≡ sum a f + sum b (λ k. f (a + k))
+unfolding sum
+sum-append a zero f = rw (add-zero a) (sym (add-zero (sum a f)))
+sum-append a (suc b) f = rw (add-suc a b, sum-append a b f) (omega arith)
+
+-- n blocks of m
+pub sum-blocks : (m n : ℕ) (f : ℕ → ℕ) → sum (m * n) f ≡ sum n (λ s. sum m (λ e. f (m * s + e)))
+unfolding sum
+sum-blocks m zero f = rw (mul-zero m)
+sum-blocks m (suc n) f = rw (mul-suc m n, sum-append (m * n) m f, sum-blocks m n f)
+
+pub count-blocks : (m n : ℕ) (p : ℕ → Bool) → count (m * n) p ≡ sum n (λ s. count m (λ e. p (m * s + e)))
+unfolding count
+count-blocks m n p = sum-blocks m n (λ k. bit (p k))
 
 -- p without k
 unfoldable pub without : (ℕ → Bool) → ℕ → ℕ → Bool

@@ -1,0 +1,61 @@
+-- Buffers with a list written at their front.
+use mathlib.Core.Path.{_≡_, refl, sym, ap, _∙_}
+use mathlib.Core.List.{List, [], _∷_, _++_}
+use Prim.Native.Nat.{ℕ, suc, _+_, _-_, _≤_, _<_}
+use native.Mathlib.Numerals.{add-one}
+use native.Mathlib.Omega.{arith}
+use lib.ListN.{length, getD, set, drop, replicate, length-append, length-drop, length-replicate, List·getD-append, replicate-append-replicate}
+use lib.Seq.{drop-cons, set-append-seam, append-snoc, drop-append-add, drop-drop, drop-append-seam}
+use Rattle.rules.specs.Below.{tabulate}
+use Rattle.rules.specs.Job.{written}
+use Rattle.rules.specs.Laws.Lists.{tabulate-more, tabulate-length}
+
+pub written-none : (d : List ℕ) → d ≡ written [] d
+unfolding written
+written-none d = refl
+
+pub written-length : (xs d : List ℕ) → length xs ≤ length d → length (written xs d) ≡ length d
+unfolding written
+written-length xs d l = simp (length-append, length-drop) (omega arith)
+
+-- what stands at the front
+pub written-at : (xs d : List ℕ) (k : ℕ) → k < length xs → getD (written xs d) k 0 ≡ getD xs k 0
+unfolding written
+written-at xs d k l = List·getD-append xs (drop (length xs) d) 0 k l
+
+-- one number more
+pub written-snoc : (xs : List ℕ) (y : ℕ) (d : List ℕ) → length xs < length d → set (written xs d) (length xs) y ≡ written (xs ++ y ∷ []) d
+unfolding written
+written-snoc xs y d l =
+    ap (λ (r : List ℕ). set (xs ++ r) (length xs) y) (drop-cons d (length xs) 0 l)
+    ∙ set-append-seam xs (getD d (length xs) 0) (drop (suc (length xs)) d) y
+    ∙ sym (append-snoc xs y (drop (suc (length xs)) d))
+    ∙ ap (λ (n : ℕ). (xs ++ y ∷ []) ++ drop n d) (sym (length-append xs (y ∷ []) ∙ add-one (length xs)))
+
+pub written-more : (n : ℕ) (f : ℕ → ℕ) (d : List ℕ) → n < length d → set (written (tabulate n f) d) n (f n) ≡ written (tabulate (n + 1) f) d
+written-more n f d l =
+    ap (λ (k : ℕ). set (written (tabulate n f) d) k (f n)) (sym (tabulate-length n f))
+    ∙ written-snoc (tabulate n f) (f n) d (rw (tabulate-length n f) l)
+    ∙ ap (λ (xs : List ℕ). written xs d) (sym (tabulate-more n f))
+
+-- numbers cleared to zero
+pub cleared-more : (n : ℕ) (d : List ℕ) → n < length d → set (written (replicate n 0) d) n 0 ≡ written (replicate (n + 1) 0) d
+cleared-more n d l =
+    ap (λ (k : ℕ). set (written zeros d) k 0) (sym full) ∙ written-snoc zeros 0 d (rw full l) ∙ ap (λ (xs : List ℕ). written xs d) (replicate-append-replicate n 1 0)
+  where
+    zeros : List ℕ
+    zeros = replicate n 0
+
+    full : length zeros ≡ n
+    full = length-replicate {A = ℕ} n 0
+
+-- a longer list over a shorter one
+pub written-over : (ys xs d : List ℕ) → length xs ≤ length ys → written ys (written xs d) ≡ written ys d
+unfolding written
+written-over ys xs d l = ap (λ (zs : List ℕ). ys ++ zs) (behind (length ys) l)
+  where
+    behind : (n : ℕ) → length xs ≤ n → drop n (xs ++ drop (length xs) d) ≡ drop n d
+    behind n l =
+        let split : n ≡ length xs + (n - length xs) = omega arith in
+        ap (λ (k : ℕ). drop k (xs ++ drop (length xs) d)) split ∙ drop-append-add xs (drop (length xs) d) (n - length xs) ∙ drop-drop (n - length xs) (length xs) d
+        ∙ ap (λ (k : ℕ). drop k d) (sym split)

@@ -1,0 +1,36 @@
+use mathlib.Core.Path.{sym, _∙_}
+use Rattle.table.specs.Rows.{id-word}
+use borrow.Author.Needs.{needs}
+use Rattle.table.proofs.id_at.Statement.{statement}
+use Rattle.table.proofs.id_at.Tie as tie
+use Rattle.table.proofs.id_at.Reads as reads
+use Rattle.table.proofs.id_at.Lts as lts
+use Rattle.words.proofs.word_at.Reads as word-at-reads
+
+-- src/lib.rt:22:19
+mul-word-at : tie.Need-mul-word-at
+mul-word-at c = search needs
+
+-- src/lib.rt:22:30
+mul-word-at-2 : tie.Need-mul-word-at-2
+mul-word-at-2 c = search needs
+
+-- src/lib.rt:22:19
+add-word-at : tie.Need-add-word-at
+add-word-at c = search needs
+
+-- src/lib.rt:22:5
+word-at-requires : tie.Need-word-at-requires
+word-at-requires c κs = search needs
+
+-- src/lib.rt:22:5
+cast-result : tie.Need-cast-result
+cast-result c = search needs
+
+-- src/lib.rt:18:1
+returns : tie.Need-returns
+returns c = c .word-at .ensures ∙ sym (id-word (c .before .before .args .rows .now) (c .before .before .args .row) (c .before .before .args .corner) (search needs) (search needs))
+
+pub id-at-spec : {M : Type 1} → statement M
+id-at-spec =
+    tie.close (tie.spec mul-word-at mul-word-at-2 add-word-at word-at-requires cast-result returns)

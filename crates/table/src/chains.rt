@@ -1,0 +1,125 @@
+// Places threaded into chains: the places of one key, rising. `head` has the first place of each key and `next` the one after each place;
+// the number of places stands for none.
+use crate::faces::face_at;
+use crate::faces::key_of;
+use crate::faces::same_ids;
+ghost use mathlib.Core.Path.{_≡_};
+ghost use mathlib.Core.Bool.{not, cond};
+ghost use Prim.Native.Nat.{ℕ, _*_, _/_, _≤_, _<_};
+ghost use lib.ListN.{length, getD, set};
+ghost use Rattle.rules.specs.Below.{any, count};
+ghost use Rattle.table.specs.Rows.{tableIn};
+ghost use Rattle.table.specs.Faces.{Kind};
+ghost use Rattle.table.specs.Chains.{highest};
+ghost use Rattle.table.specs.Places.{Chained, like};
+ghost use Rattle.table.specs.Walk.{another};
+
+// Puts a place before the chain of its key.
+fn link(key: usize, place: usize, head: &mut [u16; 8192], next: &mut [u16; 12288])
+    requires { ⌜ (key < 8192) × (place < 12288) ⌝ }
+    ensures { λ _. ⌜ (now (head .exit) ≡ set (now (head .entry)) key place) × (now (next .exit) ≡ set (now (next .entry)) place (getD (now (head .entry)) key 0)) ⌝ }
+{
+    next[place] = head[key];
+    head[key] = place as u16;
+}
+
+pub(crate) fn thread(
+    rows: &[u8],
+    base: usize,
+    m: usize,
+    head: &mut [u16; 8192],
+    next: &mut [u16; 12288],
+)
+    requires { ⌜ Kind base m × (length (now rows) / 16 ≤ 2048) × (length (now head) ≡ 8192) × (length (now next) ≡ 12288) × ((v : ℕ) → v < 8192 → getD (now head) v 0 ≡ m * (length (now rows) / 16)) ⌝ }
+    ensures { λ _. ⌜ Chained (tableIn (now (rows .entry))) base m (now (head .exit)) (now (next .exit)) ⌝ }
+{
+    let mut place = m * (rows.len() / 16);
+    while 0 < place {
+        place -= 1;
+        link(key_of(face_at(rows, base, m, place)), place, head, next);
+    }
+}
+
+// A number by value: one that is cast where it is read would ask that it fits.
+fn wide(x: u16) -> usize
+    ensures { λ r. ⌜ r ≡ x ⌝ }
+{
+    x as usize
+}
+
+// The first place of a key.
+fn first_place(head: &[u16; 8192], key: usize) -> usize
+    requires { ⌜ key < 8192 ⌝ }
+    ensures { λ r. ⌜ r ≡ getD (now (head .entry)) key 0 ⌝ }
+{
+    wide(head[key])
+}
+
+// The place after one in its chain.
+fn next_place(next: &[u16; 12288], place: usize) -> usize
+    requires { ⌜ place < 12288 ⌝ }
+    ensures { λ r. ⌜ r ≡ getD (now (next .entry)) place 0 ⌝ }
+{
+    wide(next[place])
+}
+
+fn pick(b: bool, x: usize, y: usize) -> usize
+    ensures { λ r. ⌜ r ≡ cond b x y ⌝ }
+{
+    if b { x } else { y }
+}
+
+pub(crate) struct Like {
+    pub(crate) count: usize,
+    pub(crate) other: usize,
+}
+
+// How many places have the ids of a place, and the highest of them that is another.
+pub(crate) fn like_places(
+    rows: &[u8],
+    base: usize,
+    m: usize,
+    head: &[u16; 8192],
+    next: &[u16; 12288],
+    place: usize,
+) -> Like
+    requires { ⌜ Kind base m × (length (now rows) / 16 ≤ 2048) × (place < m * (length (now rows) / 16)) × Chained (tableIn (now rows)) base m (now head) (now next) ⌝ }
+    ensures { λ r. ⌜ (r .count ≡ count (m * (length (now (rows .entry)) / 16)) (like (tableIn (now (rows .entry))) base m place))
+        × (r .other ≡ highest (m * (length (now (rows .entry)) / 16)) (another (tableIn (now (rows .entry))) base m place)) ⌝ }
+{
+    let end = m * (rows.len() / 16);
+    let face = face_at(rows, base, m, place);
+    let mut count = 0;
+    let mut other = 0;
+    let mut q = first_place(head, key_of(face));
+    while q < end {
+        let hit = same_ids(face, face_at(rows, base, m, q));
+        count += pick(hit, 1, 0);
+        other = pick(hit & (q != place), q, other);
+        q = next_place(next, q);
+    }
+    Like { count, other }
+}
+
+// No place before this one has its ids.
+pub(crate) fn first_like(
+    rows: &[u8],
+    base: usize,
+    m: usize,
+    head: &[u16; 8192],
+    next: &[u16; 12288],
+    place: usize,
+) -> bool
+    requires { ⌜ Kind base m × (length (now rows) / 16 ≤ 2048) × (place < m * (length (now rows) / 16)) × Chained (tableIn (now rows)) base m (now head) (now next) ⌝ }
+    ensures { λ r. ⌜ r ≡ not (any place (like (tableIn (now (rows .entry))) base m place)) ⌝ }
+{
+    let face = face_at(rows, base, m, place);
+    let mut q = first_place(head, key_of(face));
+    while q < place {
+        if same_ids(face, face_at(rows, base, m, q)) {
+            return false;
+        }
+        q = next_place(next, q);
+    }
+    true
+}
