@@ -1,14 +1,13 @@
 -- The faces of a row: four triangles by left-out corner, six edges and four vertices, each as three corners. An edge and a vertex repeat
 -- their last corner. So the three rules are asked of faces of one form.
-use mathlib.Core.Path.{_≡_, refl, sym, ap, _∙_, subst}
+use mathlib.Core.Path.{_≡_, refl, sym, ap, _∙_}
 use mathlib.Core.Logic.{_⊎_, inl, inr, ⊎-elim}
 use mathlib.Core.Bool.{Bool, true, false, not, _&&_, _||_, Bool·beq}
 use mathlib.Core.List.{List, [], _∷_}
-use Prim.Native.Nat.{ℕ, _+_, _*_, _/_, _%_, _≤_, _<_}
-use native.Mathlib.Nat.{mod-lt}
+use Prim.Native.Nat.{ℕ, _+_, _*_, _%_, _≤_, _<_}
 use native.Mathlib.Omega.{arith}
 use lib.Dec.{eqb, ltb, lit<, lit≤}
-use lib.ListN.{length, getD}
+use lib.ListN.{getD}
 use borrow.Author.Tests.{eqb-true, eq-eqb, ltb-true, lt-ltb, ltb-false, not-true}
 use Rattle.rules.specs.Below.{any, all}
 use Rattle.rules.specs.Table.{Table, holds}
@@ -107,12 +106,14 @@ corner-below face k l m =
     ltb-true (cornerOf face k) 4 (all-each 3 (λ k. ltb (cornerOf face k) 4) (all-each 14 (λ face. all 3 (λ k. ltb (cornerOf face k) 4)) corners-pass face l) k m)
 
 -- an edge and a vertex repeat their last corner
-repeats-pass : all 10 (λ e. eqb (cornerOf (4 + e) 2) (cornerOf (4 + e) 1)) ≡ true
+repeats-pass : all 14 (λ face. ltb face 4 || eqb (cornerOf face 2) (cornerOf face 1)) ≡ true
 unfolding all cornerOf faceCorners
 repeats-pass = refl
 
-pub repeats : (e : ℕ) → e < 10 → cornerOf (4 + e) 2 ≡ cornerOf (4 + e) 1
-repeats e l = eqb-true (cornerOf (4 + e) 2) (cornerOf (4 + e) 1) (all-each 10 (λ e. eqb (cornerOf (4 + e) 2) (cornerOf (4 + e) 1)) repeats-pass e l)
+pub repeats : (face : ℕ) → 4 ≤ face → face < 14 → cornerOf face 2 ≡ cornerOf face 1
+repeats face l m =
+    ⊎-elim (λ t. absurd (omega (arith, ltb-true face 4 t))) (eqb-true (cornerOf face 2) (cornerOf face 1))
+    (or-either (ltb face 4) (eqb (cornerOf face 2) (cornerOf face 1)) (all-each 14 (λ face. ltb face 4 || eqb (cornerOf face 2) (cornerOf face 1)) repeats-pass face m))
 
 -- the face with the corners i, j and k
 isFace : ℕ → ℕ → ℕ → ℕ → Bool

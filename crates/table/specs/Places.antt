@@ -1,24 +1,20 @@
 -- Places: the faces of one kind, m to a row. Place p is the face p % m of row p / m.
-use mathlib.Core.Path.{_≡_, refl, sym, ap, _∙_, subst}
-use mathlib.Core.Logic.{⊎-elim, _≢_}
-use mathlib.Core.Bool.{Bool, true, false, not, _&&_, cond, and-assoc, and-true}
+use mathlib.Core.Path.{_≡_, refl, sym, ap, _∙_}
+use mathlib.Core.Bool.{Bool, true, not}
 use mathlib.Core.List.{List}
 use mathlib.Core.Option.{some, none}
-use Prim.Native.Nat.{ℕ, zero, suc, _+_, _*_, _/_, _%_, _≤_, _<_}
+use Prim.Native.Nat.{ℕ, _+_, _*_, _/_, _%_, _≤_, _<_}
 use native.Mathlib.Nat.{mod-lt, mod-eq-of-lt, div-eq-of-lt, div-add-mod, mul-add-div, mul-add-mod-self-left, div-lt-iff-lt-mul, mul-comm, add-zero, lt-trans, mul-le-mul, mul-le-mul-left, mul-suc}
 use native.Mathlib.Omega.{arith}
-use lib.Dec.{eqb}
-use borrow.Author.Tests.{eqb-true, eq-eqb, eqb-false, ne-eqb, not-true, not-false}
-use Rattle.rules.specs.Below.{lowest, any, all, bit, sum, count}
-use Rattle.rules.specs.Table.{Table, side, across, trianglesShared}
-use Rattle.rules.specs.Laws.Truth.{not-both, is-false, same-test, and-first, and-second, and-both}
-use Rattle.rules.specs.Laws.Below.{Lowest, lowest-is, is-lowest, lowest-none, none-lowest, any-here, any-some, all-each, each-all, fails-all, all-same}
-use Rattle.rules.specs.Laws.Count.{TheOther, sum-same, count-same, count-blocks, count-other, any-count}
+use borrow.Author.Tests.{not-true, not-false}
+use Rattle.rules.specs.Below.{lowest, any, all, bit, count}
+use Rattle.rules.specs.Table.{Table}
+use Rattle.rules.specs.Laws.Truth.{same-test}
+use Rattle.rules.specs.Laws.Below.{lowest-is, is-lowest, lowest-none, none-lowest, any-here, any-some, each-all, fails-all}
+use Rattle.rules.specs.Laws.Count.{sum-same, count-blocks, any-count}
 use Rattle.rules.specs.Reading.Rows.{Rising}
-use Rattle.rules.specs.Reading.Neighbours.{Side, side-reads}
-use Rattle.rules.specs.Reading.Closed.{across-other}
 use Rattle.table.specs.declared.faces.Face.{Face}
-use Rattle.table.specs.Faces.{Kind, faceOf, sameIds, same-ids, ids-same, holdsIds, keyOf, kind-small, own-face, has-face, one-face, cornerOf, faceCorners}
+use Rattle.table.specs.Faces.{Kind, faceOf, sameIds, same-ids, ids-same, holdsIds, keyOf, kind-small, own-face, has-face, one-face}
 use Rattle.table.specs.Chains.{Threaded}
 
 abbrev pub faceAt : Table → ℕ → ℕ → ℕ → Face

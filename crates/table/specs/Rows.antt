@@ -1,13 +1,12 @@
 -- The table that the bytes of a row section stand for, and what a search for a row gives.
-use mathlib.Core.Path.{_≡_, refl, sym, ap, _∙_}
+use mathlib.Core.Path.{_≡_, refl, ap, _∙_}
 use mathlib.Core.Bool.{Bool, true, not, _&&_}
 use mathlib.Core.List.{List}
 use mathlib.Core.Option.{Option, some, none}
 use Prim.Native.Nat.{ℕ, _+_, _-_, _*_, _/_, _<_, _≤_}
 use native.Mathlib.Omega.{arith}
 use lib.Dec.{ltb}
-use lib.ListN.{length, getD}
-use Rattle.rules.specs.Below.{tabulate}
+use lib.ListN.{length}
 use Rattle.rules.specs.Words.{word}
 use Rattle.rules.specs.Table.{Table, tableOf, rising, idsBelow, before}
 use Rattle.rules.specs.Job.{track, rowsTable}

@@ -1,15 +1,15 @@
 -- The triangles of a row, found by like places: the triangle rule and the row across.
-use mathlib.Core.Path.{_≡_, refl, sym, ap, _∙_, subst}
-use mathlib.Core.Logic.{⊎-elim, _≢_}
+use mathlib.Core.Path.{_≡_, refl, sym, ap, _∙_}
+use mathlib.Core.Logic.{_≢_}
 use mathlib.Core.List.{List}
 use mathlib.Core.Option.{some, none}
-use mathlib.Core.Bool.{Bool, true, false, not, _&&_, _||_, and-true}
+use mathlib.Core.Bool.{Bool, true, not, _&&_, and-true}
 use Prim.Native.Nat.{ℕ, _+_, _*_, _/_, _%_, _≤_, _<_}
 use native.Mathlib.Nat.{not-suc-le-zero, le-antisymm, zero-add, mod-lt, div-add-mod}
 use native.Mathlib.Omega.{arith}
 use lib.Dec.{eqb, lit<}
 use lib.ListN.{length, getD, set, replicate, length-set, length-replicate}
-use borrow.Author.Tests.{eqb-true, eq-eqb, eqb-false, ne-eqb, not-true}
+use borrow.Author.Tests.{eq-eqb, eqb-false, ne-eqb, not-true}
 use Rattle.rules.specs.Below.{lowest, all, allBut, count, gather, tabulate}
 use Rattle.rules.specs.Table.{Table, holds, side, across, neighbourList, trianglesShared}
 use Rattle.rules.specs.Job.{written}
@@ -19,12 +19,13 @@ use Rattle.rules.specs.Laws.Truth.{and-first, and-second, and-both}
 use Rattle.rules.specs.Laws.Below.{below-suc, all-same, searched-more, search-stops, search-ends}
 use Rattle.rules.specs.Laws.Count.{TheOther, count-same, count-other}
 use Rattle.rules.specs.Reading.Rows.{Rising}
-use Rattle.rules.specs.Reading.Neighbours.{Side, side-reads}
+use Rattle.rules.specs.Reading.Neighbours.{side-reads}
 use Rattle.rules.specs.Reading.Closed.{across-other}
 use Rattle.table.specs.declared.faces.Face.{Face}
 use Rattle.table.specs.declared.Found.{Found}
 use Rattle.table.specs.declared.Found.the-variants.{At, Nowhere}
-use Rattle.table.specs.Faces.{Kind, triangles, faceCorners, cornerOf, faceOf, holdsIds}
+use Rattle.table.specs.Faces.{triangles, faceCorners, cornerOf, faceOf, holdsIds}
+use Rattle.table.specs.Rows.{tableIn, RisingRows}
 use Rattle.table.specs.Chains.{highest, highest-is}
 use Rattle.table.specs.Walk.{another}
 use Rattle.table.specs.Places.{faceAt, like, like-self, broken-row, broken-none, row-below, place-below, face-at, like-holds, holds-like, one-like, like-count}
@@ -168,3 +169,12 @@ module _ (t : Table) (four : t .corners ≡ 4) where
           unshared-none (search-ends (4 * t .rows) place (unsharedAt t) (l .shared) m),
           l .front ∙ ap (λ (k : ℕ). written (tabulate k (acrossAt t)) work₀) e ∙ ap (λ (xs : List ℕ). written xs work₀) (sym list-by-places),
         )
+
+-- ---- the neighbour list in the work words
+
+-- a row section that has passed codes 5 and 7, and the words at whose front its neighbour list stands
+pub record Neighboured (bytes work : List ℕ) : Type 0 where
+  pub rows : RisingRows bytes
+  pub shared : (r : ℕ) → r < length bytes / 16 → trianglesShared (tableIn bytes) r ≡ true
+  pub room : 4 * (length bytes / 16) ≤ length work
+  pub at : (r c : ℕ) → r < length bytes / 16 → c < 4 → getD work (4 * r + c) 0 ≡ across (tableIn bytes) r c

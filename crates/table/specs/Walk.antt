@@ -1,9 +1,8 @@
 -- A walk along the chain of a place: what it has found of the places with the same ids.
-use mathlib.Core.Path.{_≡_, refl, sym, ap, _∙_, subst}
-use mathlib.Core.Logic.{_⊎_, ⊎-elim}
+use mathlib.Core.Path.{_≡_, sym, ap, subst}
 use mathlib.Core.Bool.{Bool, true, false, not, _&&_, cond}
 use mathlib.Core.List.{List}
-use Prim.Native.Nat.{ℕ, _+_, _-_, _*_, _≤_, _<_}
+use Prim.Native.Nat.{ℕ, _+_, _*_, _≤_, _<_}
 use native.Mathlib.Nat.{le-antisymm}
 use native.Mathlib.Omega.{arith}
 use lib.Dec.{eqb, lit≤}
@@ -16,7 +15,7 @@ use Rattle.rules.specs.Laws.Count.{count-not}
 use Rattle.table.specs.declared.faces.Face.{Face}
 use Rattle.table.specs.Faces.{sameIds, keyOf, key-below}
 use Rattle.table.specs.Places.{faceAt, Chained, like, like-key}
-use Rattle.table.specs.Chains.{highest, Next, Threaded, walk-first, walk-count, walk-highest, walk-none, off-chain}
+use Rattle.table.specs.Chains.{highest, Next, walk-first, walk-count, walk-highest, walk-none, off-chain}
 
 -- the places with the ids of place p but p itself
 unfoldable pub another : Table → ℕ → ℕ → ℕ → ℕ → Bool

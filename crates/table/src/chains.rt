@@ -41,7 +41,7 @@ pub(crate) fn thread(
 }
 
 // A number by value: one that is cast where it is read would ask that it fits.
-fn wide(x: u16) -> usize
+pub(crate) fn wide(x: u16) -> usize
     ensures { λ r. ⌜ r ≡ x ⌝ }
 {
     x as usize

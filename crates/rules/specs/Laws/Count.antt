@@ -9,7 +9,7 @@ use native.Mathlib.Omega.{arith}
 use lib.Dec.{eqb}
 use borrow.Author.Tests.{eqb-true, eq-eqb, eqb-false, ne-eqb, not-true, not-false}
 use Rattle.rules.specs.Below.{any, allBut, bit, sum, count}
-use Rattle.rules.specs.Laws.Truth.{not-both, is-false, and-first, and-second, and-both, or-either, or-first, or-second, same-or-not}
+use Rattle.rules.specs.Laws.Truth.{not-both, is-false, is-true, and-first, and-second, and-both, or-either, or-first, or-second, same-or-not}
 use Rattle.rules.specs.Laws.Below.{Lowest, lowest-or-none, any-here, none-any, all-each, each-all}
 
 -- ---- sums
@@ -142,6 +142,12 @@ count-le n p q e = sum-le n (λ k. bit (p k)) (λ k. bit (q k)) (λ k l. bit-le 
     bit-le : (a b : Bool) → (a ≡ true → b ≡ true) → bit a ≤ bit b
     bit-le true b f = rw (f refl) (le-refl (bit true))
     bit-le false b f = rw (bit-zero {b = false} refl) zero-le
+
+-- of two tests, one of which passes no less, with the same count
+pub count-le-same : (n : ℕ) (p q : ℕ → Bool) → ((k : ℕ) → k < n → p k ≡ true → q k ≡ true) → count n p ≡ count n q → (k : ℕ) → k < n → q k ≡ true → p k ≡ true
+count-le-same n p q sub same k l t =
+    is-true (p k) (λ off. let more = count-le n p (without q k) (λ j m on. is-without q k j (sub j m on) (λ (e : j ≡ k). not-both on (ap p e ∙ off))) in
+    omega (arith, count-without n q k l t))
 
 -- ---- exactly one
 

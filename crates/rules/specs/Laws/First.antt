@@ -23,6 +23,10 @@ pub match-later : (code : ℕ) (test : Test) (tests : List Test) → test tt ≡
 unfolding firstMatch
 match-later code test tests e = rw (e, firstMatch)
 
+pub match-end : (code : ℕ) → firstMatch code [] ≡ record { code = 0; place = 0 }
+unfolding firstMatch
+match-end code = refl
+
 -- a test matches, or it does not
 test-cases : (test : Test) → ((place : ℕ) × (test tt ≡ some place)) ⊎ (test tt ≡ none)
 test-cases test = go (test tt) refl

@@ -24,6 +24,10 @@ module _ {A : Type 0} {Member : A → Type 0} {Next : A → A → Type 0} where
   chain-starts (stay m e) = m
   chain-starts (step m n c) = m
 
+  pub chain-ends : {x y : A} → Chain Member Next x y → Member y
+  chain-ends (stay m e) = subst Member e m
+  chain-ends (step m n c) = chain-ends c
+
   pub chain-join : {x y z : A} → Chain Member Next x y → Chain Member Next y z → Chain Member Next x z
   chain-join {z = z} (stay {x} {y} m e) c = subst (λ (a : A). Chain Member Next a z) (sym e) c
   chain-join (step m n c) d = step m n (chain-join c d)
@@ -32,6 +36,12 @@ module _ {A : Type 0} {Member : A → Type 0} {Next : A → A → Type 0} where
   pub chain-back : ((x y : A) → Member x → Member y → Next x y → Next y x) → {x y : A} → Chain Member Next x y → Chain Member Next y x
   chain-back back (stay {x} {y} m e) = stay (subst Member e m) (sym e)
   chain-back back (step {x} {y} m n c) = chain-join (chain-back back c) (step (chain-starts c) (back x y m (chain-starts c) n) (stay m refl))
+
+-- what is passed on from each member to the next is passed on along the chain
+pub chain-passes : {A : Type 0} {M : A → Type 0} {R : A → A → Type 0} (P : A → Type 0) → ((x y : A) → M x → M y → R x y → P x → P y)
+    → {x y : A} → Chain M R x y → P x → P y
+chain-passes P on (stay m e) p = subst P e p
+chain-passes P on (step {x} {y} m n c) p = chain-passes P on c (on x y m (chain-starts c) n p)
 
 pub chain-map : {A : Type 0} {M N : A → Type 0} {R S : A → A → Type 0} → ((x : A) → M x → N x) → ((x y : A) → M x → M y → R x y → S x y)
     → {x y : A} → Chain M R x y → Chain N S x y

@@ -99,6 +99,10 @@ pick-in n p k m =
     let (t, e) = only-in (p j) j k i in
     (subst (λ (x : ℕ). x < n) (sym e) l, ap p e ∙ t)
 
+pub pick-same : (n : ℕ) (p q : ℕ → Bool) → ((k : ℕ) → k < n → p k ≡ q k) → pick n p ≡ pick n q
+unfolding pick
+pick-same n p q e = gather-same n (λ k. only (p k) k) (λ k. only (q k) k) (λ k l. ap (λ (b : Bool). only b k) (e k l))
+
 pub pick-length : (n : ℕ) (p : ℕ → Bool) → length (pick n p) ≡ count n p
 unfolding pick count
 pick-length n p = gather-length n (λ k. only (p k) k) ∙ ap (sum n) (fun-ext (λ k. only-length (p k) k))

@@ -5,7 +5,7 @@ use Prim.Native.Nat.{ℕ, suc, _+_, _-_, _≤_, _<_}
 use native.Mathlib.Numerals.{add-one}
 use native.Mathlib.Omega.{arith}
 use lib.ListN.{length, getD, set, drop, replicate, length-append, length-drop, length-replicate, List·getD-append, replicate-append-replicate}
-use lib.Seq.{drop-cons, set-append-seam, append-snoc, drop-append-add, drop-drop, drop-append-seam}
+use lib.Seq.{drop-cons, set-append-seam, append-snoc, drop-append-add, drop-drop}
 use Rattle.rules.specs.Below.{tabulate}
 use Rattle.rules.specs.Job.{written}
 use Rattle.rules.specs.Laws.Lists.{tabulate-more, tabulate-length}

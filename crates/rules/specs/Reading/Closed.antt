@@ -4,18 +4,19 @@ use mathlib.Core.Logic.{_⊎_, inl, inr, ⊎-elim, _↔_, _≢_}
 use mathlib.Core.Bool.{Bool, true, not, _&&_}
 use mathlib.Core.Option.{Option, Option·getD}
 use mathlib.Core.List.{List, [], _∷_, List·Memᴰ·head, List·Memᴰ·tail, List·Memᴰ·not-nil, List·Memᴰ·cases-cons, List·Memᴰ·eq-of-singleton}
-use Prim.Native.Nat.{ℕ, _-_, _<_}
-use native.Mathlib.Nat.{lt-trans, lt-irrefl}
+use Prim.Native.Nat.{ℕ, _+_, _-_, _*_, _/_, _%_, _<_}
+use native.Mathlib.Nat.{lt-trans, lt-irrefl, mul-le-mul-left, mul-suc, mul-add-div, div-eq-of-lt, add-zero, mul-add-mod-self-left, mod-eq-of-lt}
 use native.Mathlib.Omega.{arith}
 use lib.Dec.{eqb, ltb}
+use lib.ListN.{length, getD}
 use borrow.Author.Tests.{eqb-true, eq-eqb, eqb-false, ne-eqb, ltb-true, ltb-false, not-true}
 use Rattle.rules.specs.Below.{count, tabulate}
 use Rattle.rules.specs.Shape.{edgeTable, vertices}
-use Rattle.rules.specs.Table.{Table, holds, side, neighbours, across, trianglesShared, holdsFace, faceJoined, facesJoined, edgesJoined, verticesJoined}
+use Rattle.rules.specs.Table.{Table, holds, side, neighbours, across, neighbourList, trianglesShared, holdsFace, faceJoined, facesJoined, edgesJoined, verticesJoined}
 use Rattle.rules.specs.Laws.Truth.{true-or-false, is-false, and-first, and-second, and-both}
 use Rattle.rules.specs.Laws.Below.{is-lowest, all-each, each-all}
 use Rattle.rules.specs.Laws.Count.{ExactlyTwo, TheOther, two-map, count-two, two-count, the-other}
-use Rattle.rules.specs.Laws.Lists.{Among, in-gather, gather-in}
+use Rattle.rules.specs.Laws.Lists.{Among, in-gather, gather-in, tabulate-length, tabulate-at}
 use Rattle.rules.specs.Laws.Shape.{table-edge, edge-in-table}
 use Rattle.rules.specs.Laws.Joined.{Chain, chain-map, picked-chain, chain-picked}
 use Rattle.rules.specs.Reading.Rows.{Rising, IdsBelow, Before, Holds, holds-reads}
@@ -141,6 +142,18 @@ module _ (t : Table) where
     where
       other : ℕ → Bool
       other s = not (eqb s r) && side t r c s
+
+-- ---- the neighbour list
+
+pub list-length : (t : Table) → length (neighbourList t) ≡ t .corners * t .rows
+unfolding neighbourList
+list-length t = tabulate-length (t .corners * t .rows) (λ k. across t (k / t .corners) (k % t .corners))
+
+pub list-at : (t : Table) (r c : ℕ) → r < t .rows → c < t .corners → getD (neighbourList t) (t .corners * r + c) 0 ≡ across t r c
+unfolding neighbourList
+list-at t r c l m =
+    tabulate-at (t .corners * t .rows) (λ k. across t (k / t .corners) (k % t .corners)) 0 (t .corners * r + c) (omega (arith, mul-le-mul-left (t .corners) l, mul-suc (t .corners) r))
+    ∙ rw (mul-add-div {m = t .corners} (omega arith) r c, div-eq-of-lt m, add-zero r, mul-add-mod-self-left (t .corners) r c, mod-eq-of-lt m)
 
 -- ---- rules 5 to 9 together
 

@@ -3,31 +3,22 @@ use Rattle.table.specs.Rows.{id-word}
 use borrow.Author.Needs.{needs}
 use Rattle.table.proofs.id_at.Statement.{statement}
 use Rattle.table.proofs.id_at.Tie as tie
-use Rattle.table.proofs.id_at.Reads as reads
-use Rattle.table.proofs.id_at.Lts as lts
-use Rattle.words.proofs.word_at.Reads as word-at-reads
 
--- src/lib.rt:22:19
 mul-word-at : tie.Need-mul-word-at
 mul-word-at c = search needs
 
--- src/lib.rt:22:30
 mul-word-at-2 : tie.Need-mul-word-at-2
 mul-word-at-2 c = search needs
 
--- src/lib.rt:22:19
 add-word-at : tie.Need-add-word-at
 add-word-at c = search needs
 
--- src/lib.rt:22:5
 word-at-requires : tie.Need-word-at-requires
 word-at-requires c κs = search needs
 
--- src/lib.rt:22:5
 cast-result : tie.Need-cast-result
 cast-result c = search needs
 
--- src/lib.rt:18:1
 returns : tie.Need-returns
 returns c = c .word-at .ensures ∙ sym (id-word (c .before .before .args .rows .now) (c .before .before .args .row) (c .before .before .args .corner) (search needs) (search needs))
 

@@ -5,32 +5,22 @@ use lib.ListN.{length-replicate, getD-replicate}
 use borrow.Author.Needs.{needs}
 use Rattle.table.proofs.across.neighbours.Statement.{statement}
 use Rattle.table.proofs.across.neighbours.Tie as tie
-use Rattle.table.proofs.across.neighbours.Reads as reads
-use Rattle.table.proofs.across.neighbours.Lts as lts
-use Rattle.table.proofs.across.neighbours_by.Reads as neighbours-by-reads
-use Rattle.table.proofs.chains.thread.Reads as thread-reads
 
--- src/across.rt:50:22
 mul-head : tie.Need-mul-head
 mul-head c = search needs
 
--- src/across.rt:50:21
 cast-head : tie.Need-cast-head
 cast-head c = search needs
 
--- src/across.rt:52:5
 thread-requires : tie.Need-thread-requires
 thread-requires c κs = (triangles, c .before .before .before .before .pre .0 .few, length-replicate {A = ℕ} 8192 (4 * (length (c .before .before .before .before .args .rows .now) / 16)), length-replicate {A = ℕ} 12288 0, λ v l. getD-replicate 8192 v _ 0 l)
 
--- src/across.rt:53:5
 neighbours-by-requires : tie.Need-neighbours-by-requires
 neighbours-by-requires c κs = search needs
 
--- src/across.rt:45:1
 same-length : tie.Need-same-length
 same-length c = search needs
 
--- src/across.rt:45:1
 returns : tie.Need-returns
 returns c = search needs
 

@@ -2,7 +2,7 @@ use Rattle.table.specs.Walk.{another}
 use Rattle.table.specs.Triangles.{Listed, list-begins, list-turn, list-refuses, list-cleared, list-ends, frontAfter}
 use Rattle.table.specs.Chains.{highest-small}
 use Rattle.table.specs.Faces.{triangles}
-use Rattle.table.specs.Rows.{RisingRows, tableIn, each-rising}
+use Rattle.table.specs.Rows.{tableIn, each-rising}
 use borrow.Author.Needs.{needs}
 use lib.ListN.{length}
 use native.Mathlib.Omega.{arith}
@@ -10,10 +10,6 @@ use mathlib.Core.Path.{refl, _∙_}
 use Prim.Native.Nat.{_*_, _/_, _-_}
 use Rattle.table.proofs.across.neighbours_by.Statement.{statement}
 use Rattle.table.proofs.across.neighbours_by.Tie as tie
-use Rattle.table.proofs.across.neighbours_by.Reads as reads
-use Rattle.table.proofs.across.neighbours_by.Lts as lts
-use Rattle.table.proofs.across.clear.Reads as clear-reads
-use Rattle.table.proofs.chains.like_places.Reads as like-places-reads
 
 abbrev Inv-loop : tie.InvT-loop
 Inv-loop rows head next work₀ end place₀ work place = Listed (tableIn rows) place work work₀
@@ -21,60 +17,46 @@ Inv-loop rows head next work₀ end place₀ work place = Listed (tableIn rows) 
 abbrev μ-loop : tie.MeasureT-loop
 μ-loop rows head next work₀ end place₀ work place = 4 * (length rows / 16) - place
 
--- src/across.rt:31:15
 mul-end : tie.Need-mul-end Inv-loop μ-loop
 mul-end c = omega (arith, c .before .before .pre .0 .few)
 
--- src/across.rt:33:5
 loop-holds : tie.Need-loop-holds Inv-loop μ-loop
 loop-holds c = list-begins _ _
 
--- src/across.rt:34:13
 like-places-requires : tie.Need-like-places-requires Inv-loop μ-loop
 like-places-requires c κs = (triangles, c .before .before .before .before .pre .0 .few, c .loop-test .taken, c .before .before .before .before .pre .1)
 
--- src/across.rt:36:13
 clear-requires : tie.Need-clear-requires Inv-loop μ-loop
 clear-requires c κs = rw (c .before .before .before .before .before .loop .inv .kept) (c .before .before .before .before .before .before .before .before .pre .2)
 
--- src/across.rt:37:13
 same-length : tie.Need-same-length Inv-loop μ-loop
 same-length c = c .before .before .clear .kept .0 ∙ c .before .before .before .before .before .before .before .before .loop .inv .kept
 
--- src/across.rt:37:13
 returns : tie.Need-returns Inv-loop μ-loop
 unfolding frontAfter
 returns c = (list-refuses _ refl (each-rising (c .before .before .before .before .before .before .before .before .before .before .before .pre .0)) (c .before .before .before .before .before .before .before .before .loop .inv) (c .before .before .before .before .before .before .before .loop-test .taken) (c .before .before .before .before .before .before .like-places .ensures .0) (c .before .before .before .before .if1 .taken), list-cleared _ refl (each-rising (c .before .before .before .before .before .before .before .before .before .before .before .pre .0)) (c .before .before .before .before .before .before .before .before .loop .inv) (c .before .before .clear .ensures))
 
--- src/across.rt:39:23
 cast-work : tie.Need-cast-work Inv-loop μ-loop
 cast-work c = omega (arith, c .before .before .before .before .before .before .before .before .pre .0 .few, c .before .before .before .like-places .ensures .1, highest-small (4 * (length (c .before .before .before .before .before .before .before .before .args .rows .now) / 16)) (another (tableIn (c .before .before .before .before .before .before .before .before .args .rows .now)) 0 4 (c .before .before .before .before .before .loop .place)))
 
--- src/across.rt:39:9
 mul-work : tie.Need-mul-work Inv-loop μ-loop
 mul-work c = search needs
 
--- src/across.rt:39:9
 slice-write-work : tie.Need-slice-write-work Inv-loop μ-loop
 slice-write-work c = rw (c .before .before .before .before .before .loop .inv .kept) (omega (arith, c .before .before .before .before .before .before .before .before .pre .2, c .before .before .before .before .loop-test .taken))
 
--- src/across.rt:40:9
 add-place : tie.Need-add-place Inv-loop μ-loop
 add-place c = search needs
 
--- src/across.rt:33:5
 loop-less : tie.Need-loop-less Inv-loop μ-loop
 loop-less c = search needs
 
--- src/across.rt:33:5
 loop-again : tie.Need-loop-again Inv-loop μ-loop
 loop-again c = list-turn _ refl (each-rising (c .before .before .before .before .before .before .before .before .pre .0)) (c .before .before .before .before .before .loop .inv) (c .before .before .before .before .loop-test .taken) (c .before .before .before .like-places .ensures .0) (c .before .before .before .before .before .before .before .before .pre .2) (c .before .before .before .like-places .ensures .1) (c .before .if1 .left)
 
--- src/across.rt:26:1
 same-length-2 : tie.Need-same-length-2 Inv-loop μ-loop
 same-length-2 c = c .before .loop .inv .kept
 
--- src/across.rt:26:1
 returns-2 : tie.Need-returns-2 Inv-loop μ-loop
 unfolding frontAfter
 returns-2 c = list-ends _ refl (each-rising (c .before .before .before .before .pre .0)) (c .before .loop .inv) (c .loop-test .left)

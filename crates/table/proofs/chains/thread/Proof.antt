@@ -3,22 +3,17 @@ use mathlib.Core.Path.{_∙_, ap}
 use Rattle.table.specs.Chains.{link-threaded}
 use lib.ListN.{length-set}
 use mathlib.Core.Path.{_∙_}
-use Rattle.table.specs.Chains.{Threaded, none-threaded, more-threaded}
+use Rattle.table.specs.Chains.{Threaded, none-threaded}
 use Rattle.table.specs.Places.{faceAt, places-fit}
-use Rattle.table.specs.Faces.{keyOf, key-below, kind-small}
+use Rattle.table.specs.Faces.{keyOf, key-below}
 use Rattle.table.specs.Rows.{tableIn}
 use borrow.Author.Needs.{needs}
 use lib.ListN.{length}
 use native.Mathlib.Omega.{arith}
-use Prim.Native.Nat.{_+_, _*_, _/_, _≤_}
-use mathlib.Core.Path.{_≡_, refl}
+use Prim.Native.Nat.{_*_, _/_, _≤_}
+use mathlib.Core.Path.{_≡_}
 use Rattle.table.proofs.chains.thread.Statement.{statement}
 use Rattle.table.proofs.chains.thread.Tie as tie
-use Rattle.table.proofs.chains.thread.Reads as reads
-use Rattle.table.proofs.chains.thread.Lts as lts
-use Rattle.table.proofs.chains.link.Reads as link-reads
-use Rattle.table.proofs.faces.face_at.Reads as face-at-reads
-use Rattle.table.proofs.faces.key_of.Reads as key-of-reads
 
 abbrev Inv-loop : tie.InvT-loop
 Inv-loop rows base m head₀ next₀ place₀ head next place = (place ≤ m * (length rows / 16)) × (length head ≡ 8192) × (length next ≡ 12288) × Threaded (λ p. keyOf (faceAt (tableIn rows) base m p)) (m * (length rows / 16)) place head next
@@ -26,39 +21,30 @@ Inv-loop rows base m head₀ next₀ place₀ head next place = (place ≤ m * (
 abbrev μ-loop : tie.MeasureT-loop
 μ-loop rows base m head₀ next₀ place₀ head next place = place
 
--- src/chains.rt:28:21
 mul-place : tie.Need-mul-place Inv-loop μ-loop
 mul-place c = omega (arith, places-fit (c .before .pre .0) (c .before .pre .1))
 
--- src/chains.rt:29:5
 loop-holds : tie.Need-loop-holds Inv-loop μ-loop
 loop-holds c = (search needs, c .before .pre .2, c .before .pre .3, none-threaded _ _ _ _ (c .before .pre .4))
 
--- src/chains.rt:30:9
 sub-place : tie.Need-sub-place Inv-loop μ-loop
 sub-place c = search needs
 
--- src/chains.rt:31:21
 face-at-requires : tie.Need-face-at-requires Inv-loop μ-loop
 face-at-requires c κs = (c .before .before .before .pre .0, search needs)
 
--- src/chains.rt:31:14
 key-of-requires : tie.Need-key-of-requires Inv-loop μ-loop
 key-of-requires c κs = tt
 
--- src/chains.rt:31:9
 link-requires : tie.Need-link-requires Inv-loop μ-loop
 link-requires c κs = (rw (c .before .before .key-of .ensures) (key-below _), omega (arith, places-fit (c .before .before .before .before .before .before .before .pre .0) (c .before .before .before .before .before .before .before .pre .1)))
 
--- src/chains.rt:29:5
 loop-less : tie.Need-loop-less Inv-loop μ-loop
 loop-less c = search needs
 
--- src/chains.rt:29:5
 loop-again : tie.Need-loop-again Inv-loop μ-loop
 loop-again c = (search needs, rw (c .link .ensures .0, length-set) (c .before .before .before .before .before .before .loop .inv .1), rw (c .link .ensures .1, length-set) (c .before .before .before .before .before .before .loop .inv .2), link-threaded _ _ _ _ _ _ _ _ (search needs) (search needs) (c .before .before .before .key-of .ensures ∙ ap keyOf (c .before .before .before .before .face-at .ensures)) (rw (c .before .before .before .key-of .ensures) (key-below _)) (c .before .before .before .before .before .before .loop .inv .1) (rw (c .before .before .before .before .before .before .loop .inv .2) (places-fit (c .before .before .before .before .before .before .before .before .pre .0) (c .before .before .before .before .before .before .before .before .pre .1))) (c .before .before .before .before .before .before .loop .inv .3) (c .link .ensures .0) (c .link .ensures .1))
 
--- src/chains.rt:24:1
 returns : tie.Need-returns Inv-loop μ-loop
 returns c = all-threaded _ _ (c .before .loop .inv .3) (c .loop-test .left)
 

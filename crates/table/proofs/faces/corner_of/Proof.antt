@@ -3,26 +3,19 @@ use mathlib.Core.Path.{refl}
 use borrow.Author.Needs.{needs}
 use Rattle.table.proofs.faces.corner_of.Statement.{statement}
 use Rattle.table.proofs.faces.corner_of.Tie as tie
-use Rattle.table.proofs.faces.corner_of.Reads as reads
-use Rattle.table.proofs.faces.corner_of.Lts as lts
 
--- src/faces.rt:29:13
 mul-result : tie.Need-mul-result
 mul-result c = search needs
 
--- src/faces.rt:29:13
 add-result : tie.Need-add-result
 add-result c = search needs
 
--- src/faces.rt:29:5
 mul-result-2 : tie.Need-mul-result-2
 mul-result-2 c = search needs
 
--- src/faces.rt:29:5
 array-read-result : tie.Need-array-read-result
 array-read-result c = search needs
 
--- src/faces.rt:25:1
 returns : tie.Need-returns
 unfolding cornerOf faceCorners
 returns c = refl

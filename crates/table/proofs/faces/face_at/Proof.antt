@@ -1,34 +1,22 @@
 use Rattle.table.specs.Places.{row-below}
 use Rattle.table.specs.Faces.{kind-small, kind-four-or-six}
-use borrow.Author.Needs.{needs}
 use native.Mathlib.Omega.{arith}
 use native.Mathlib.Nat.{mod-lt}
-use Prim.Native.Nat.{_*_, _%_}
 use Rattle.table.proofs.faces.face_at.Statement.{statement}
 use Rattle.table.proofs.faces.face_at.Tie as tie
-use Rattle.table.proofs.faces.face_at.Reads as reads
-use Rattle.table.proofs.faces.face_at.Lts as lts
-use Rattle.table.proofs.faces.face_of.Reads as face-of-reads
-use Rattle.table.proofs.faces.row_of.Reads as row-of-reads
-use Rattle.table.proofs.faces.within_row.Reads as within-row-reads
 
--- src/faces.rt:75:19
 row-of-requires : tie.Need-row-of-requires
 row-of-requires c κs = kind-four-or-six (c .before .pre .0)
 
--- src/faces.rt:75:44
 within-row-requires : tie.Need-within-row-requires
 within-row-requires c κs = kind-four-or-six (c .before .before .pre .0)
 
--- src/faces.rt:75:37
 add-face-of : tie.Need-add-face-of
 add-face-of c = omega (arith, kind-small (c .before .before .before .pre .0) .2, c .within-row .ensures, mod-lt (c .before .before .before .args .place) (kind-small (c .before .before .before .pre .0) .0))
 
--- src/faces.rt:75:5
 face-of-requires : tie.Need-face-of-requires
 face-of-requires c κs = (rw (c .before .row-of .ensures) (row-below (kind-small (c .before .before .before .pre .0) .0) _ _ (c .before .before .before .pre .1)), omega (arith, kind-small (c .before .before .before .pre .0) .2, c .within-row .ensures, mod-lt (c .before .before .before .args .place) (kind-small (c .before .before .before .pre .0) .0)))
 
--- src/faces.rt:71:1
 returns : tie.Need-returns
 returns c = rw (← c .before .within-row .ensures, ← c .before .before .row-of .ensures) (c .face-of .ensures)
 

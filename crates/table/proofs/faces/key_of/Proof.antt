@@ -3,26 +3,19 @@ use mathlib.Core.Path.{refl}
 use borrow.Author.Needs.{needs}
 use Rattle.table.proofs.faces.key_of.Statement.{statement}
 use Rattle.table.proofs.faces.key_of.Tie as tie
-use Rattle.table.proofs.faces.key_of.Reads as reads
-use Rattle.table.proofs.faces.key_of.Lts as lts
 
--- src/faces.rt:46:19
 mul-result : tie.Need-mul-result
 mul-result c = search needs
 
--- src/faces.rt:46:6
 add-result : tie.Need-add-result
 add-result c = search needs
 
--- src/faces.rt:46:39
 mul-result-2 : tie.Need-mul-result-2
 mul-result-2 c = search needs
 
--- src/faces.rt:46:6
 add-result-2 : tie.Need-add-result-2
 add-result-2 c = search needs
 
--- src/faces.rt:43:1
 returns : tie.Need-returns
 unfolding keyOf
 returns c = refl

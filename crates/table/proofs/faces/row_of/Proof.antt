@@ -3,14 +3,10 @@ use mathlib.Core.Logic.{⊎-elim}
 use mathlib.Core.Path.{sym, ap}
 use Rattle.table.proofs.faces.row_of.Statement.{statement}
 use Rattle.table.proofs.faces.row_of.Tie as tie
-use Rattle.table.proofs.faces.row_of.Reads as reads
-use Rattle.table.proofs.faces.row_of.Lts as lts
 
--- src/faces.rt:56:1
 returns : tie.Need-returns
 returns c = ap (λ (m : ℕ). c .before .args .place / m) (sym (c .if1 .taken))
 
--- src/faces.rt:56:1
 returns-2 : tie.Need-returns-2
 returns-2 c = ⊎-elim (λ e. absurd (c .if1 .left e)) (λ e. ap (λ (m : ℕ). c .before .args .place / m) (sym e)) (c .before .pre)
 

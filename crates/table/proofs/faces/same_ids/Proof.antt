@@ -2,10 +2,7 @@ use Rattle.table.specs.Faces.{sameIds}
 use mathlib.Core.Path.{refl}
 use Rattle.table.proofs.faces.same_ids.Statement.{statement}
 use Rattle.table.proofs.faces.same_ids.Tie as tie
-use Rattle.table.proofs.faces.same_ids.Reads as reads
-use Rattle.table.proofs.faces.same_ids.Lts as lts
 
--- src/faces.rt:49:1
 returns : tie.Need-returns
 unfolding sameIds
 returns c = refl

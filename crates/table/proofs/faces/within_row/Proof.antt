@@ -3,14 +3,10 @@ use mathlib.Core.Logic.{⊎-elim}
 use mathlib.Core.Path.{sym, ap}
 use Rattle.table.proofs.faces.within_row.Statement.{statement}
 use Rattle.table.proofs.faces.within_row.Tie as tie
-use Rattle.table.proofs.faces.within_row.Reads as reads
-use Rattle.table.proofs.faces.within_row.Lts as lts
 
--- src/faces.rt:63:1
 returns : tie.Need-returns
 returns c = ap (λ (m : ℕ). c .before .args .place % m) (sym (c .if1 .taken))
 
--- src/faces.rt:63:1
 returns-2 : tie.Need-returns-2
 returns-2 c = ⊎-elim (λ e. absurd (c .if1 .left e)) (λ e. ap (λ (m : ℕ). c .before .args .place % m) (sym e)) (c .before .pre)
 

@@ -1,17 +1,14 @@
 use Rattle.table.specs.Rows.{tableIn, notAfter}
 use Rattle.rules.specs.Laws.Below.{searched-more, search-stops, search-ends}
-use Rattle.rules.specs.Laws.Truth.{is-false, not-both, and-both, and-second}
+use Rattle.rules.specs.Laws.Truth.{and-both}
 use Rattle.rules.specs.Below.{lowest, orElse, found}
 use borrow.Author.Tests.{lt-ltb}
 use borrow.Author.Needs.{needs}
 use Prim.Native.Nat.{_-_, _≤_}
 use mathlib.Core.Option.{none}
-use mathlib.Core.Path.{_≡_, refl, ap, sym, _∙_}
+use mathlib.Core.Path.{_≡_, refl, sym}
 use Rattle.table.proofs.rows.out_of_order.Statement.{statement}
 use Rattle.table.proofs.rows.out_of_order.Tie as tie
-use Rattle.table.proofs.rows.out_of_order.Reads as reads
-use Rattle.table.proofs.rows.out_of_order.Lts as lts
-use Rattle.table.proofs.rows.row_before.Reads as row-before-reads
 
 abbrev Inv-loop : tie.InvT-loop
 Inv-loop rows n row₀ row = (1 ≤ row) × (lowest row (notAfter (tableIn rows)) ≡ none)
@@ -19,36 +16,28 @@ Inv-loop rows n row₀ row = (1 ≤ row) × (lowest row (notAfter (tableIn rows)
 abbrev μ-loop : tie.MeasureT-loop
 μ-loop rows n row₀ row = n - row
 
--- src/rows.rt:76:5
 loop-holds : tie.Need-loop-holds Inv-loop μ-loop
 unfolding lowest orElse found
 loop-holds c = (search needs, refl)
 
--- src/rows.rt:77:30
 sub-row-before : tie.Need-sub-row-before Inv-loop μ-loop
 sub-row-before c = search needs
 
--- src/rows.rt:77:13
 row-before-requires : tie.Need-row-before-requires Inv-loop μ-loop
 row-before-requires c κs = search needs
 
--- src/rows.rt:78:13
 returns : tie.Need-returns Inv-loop μ-loop
 returns c = sym (search-stops _ _ (notAfter (tableIn (c .before .before .before .before .before .args .rows .now))) (c .before .before .before .loop .inv .1) (search needs) (and-both (lt-ltb 0 (c .before .before .before .loop .row) (search needs)) (rw (← c .before .row-before .ensures) (c .if1 .taken))))
 
--- src/rows.rt:80:9
 add-row : tie.Need-add-row Inv-loop μ-loop
 add-row c = search needs
 
--- src/rows.rt:76:5
 loop-less : tie.Need-loop-less Inv-loop μ-loop
 loop-less c = search needs
 
--- src/rows.rt:76:5
 loop-again : tie.Need-loop-again Inv-loop μ-loop
 loop-again c = (search needs, searched-more _ (notAfter (tableIn (c .before .before .before .before .before .args .rows .now))) (c .before .before .before .loop .inv .1) (rw (← c .before .row-before .ensures, lt-ltb 0 (c .before .before .before .loop .row) (search needs)) (c .if1 .left)))
 
--- src/rows.rt:71:1
 returns-2 : tie.Need-returns-2 Inv-loop μ-loop
 returns-2 c = sym (search-ends _ _ (notAfter (tableIn (c .before .before .before .args .rows .now))) (c .before .loop .inv .1) (c .loop-test .left))
 

@@ -1,0 +1,323 @@
+-- The rows that hold an edge or a vertex: whether they are joined is found by a flood from one of them.
+use mathlib.Core.Path.{_≡_, refl, sym, ap, _∙_, subst}
+use mathlib.Core.Logic.{_⊎_, inl, inr, ⊎-elim, _≢_}
+use mathlib.Core.Bool.{Bool, true, false, not, _&&_, cond, and-assoc, and-true, and-self}
+use mathlib.Core.List.{List, [], _∷_}
+use mathlib.Core.Option.{some, none}
+use Prim.Native.Nat.{ℕ, _+_, _*_, _/_, _%_, _≤_, _<_}
+use native.Mathlib.Nat.{mod-lt}
+use native.Mathlib.Omega.{arith}
+use lib.Dec.{eqb, lit<}
+use lib.ListN.{length, getD, set, replicate, length-replicate, getD-replicate}
+use borrow.Author.Tests.{eqb-true, eq-eqb, eqb-false, not-true, not-false}
+use Rattle.rules.specs.Below.{lowest, any, all, gather, tabulate, count, pick}
+use Rattle.rules.specs.Joined.{connected}
+use Rattle.rules.specs.Shape.{edgeTable, vertices}
+use Rattle.rules.specs.Table.{Table, holds, neighbours, across, holdsFace, faceJoined, facesJoined, edgesJoined, verticesJoined}
+use Rattle.rules.specs.Laws.Below.{any-some, all-same}
+use Rattle.rules.specs.Laws.Truth.{true-or-false, not-both, same-test, same-or-not, and-first, and-second, and-both}
+use Rattle.rules.specs.Laws.Count.{TheOther, the-other, count-same, count-le-same, count-not}
+use Rattle.rules.specs.Laws.Lists.{pick-same}
+use Rattle.rules.specs.Laws.Joined.{Chain, stay, step, chain-ends, chain-join, chain-back, chain-passes, Picked, picked-chain, chain-picked}
+use Rattle.rules.specs.Reading.Rows.{Rising, Holds, holds-reads}
+use Rattle.rules.specs.Reading.Neighbours.{Side, side-self, Neighbours, neighbours-read, neighbours-back}
+use Rattle.rules.specs.Reading.Closed.{TrianglesShared, triangles-read, across-other}
+use Rattle.table.specs.declared.faces.Face.{Face}
+use Rattle.table.specs.Faces.{Kind, faceCorners, cornerOf, faceOf, holdsIds, same-ids, own-face, kind-small, repeats}
+use Rattle.table.specs.Places.{faceAt, face-at, like, like-count, broken-row, broken-none}
+use Rattle.table.specs.Rows.{tableIn, RisingRows, each-rising}
+use Rattle.table.specs.Triangles.{Neighboured}
+use Rattle.table.specs.Flood.{stamped, Flooding, Flooded, flood-begins, flood-turn, flood-room, flood-ends}
+
+-- row s holds a and b: an edge, or where a is b a vertex
+unfoldable pub both : Table → ℕ → ℕ → ℕ → Bool
+both t a b s = holds t s a && holds t s b
+
+unfoldable pub bothJoined : Table → ℕ → ℕ → Bool
+bothJoined t a b = connected (neighbours t) (pick (t .rows) (both t a b))
+
+-- the rows that hold a face are joined
+unfoldable pub idsJoined : Table → Face → Bool
+idsJoined t f = bothJoined t (f .a) (f .b)
+
+-- the edges, or the vertices, of row r
+unfoldable pub allJoined : Table → ℕ → ℕ → ℕ → Bool
+allJoined t base m r = all m (λ e. idsJoined t (faceOf t r (base + e)))
+
+-- what codes 8 and 9 look for
+abbrev pub unjoined : Table → ℕ → ℕ → ℕ → Bool
+unjoined t base m r = not (allJoined t base m r)
+
+-- edges or vertices
+abbrev pub Joint : ℕ → ℕ → Type 0
+Joint base m = Kind base m × (4 ≤ base)
+
+-- stamps and a queue between two floods: the stamps are at most k
+pub record Scratch (n k : ℕ) (stamp queue : List ℕ) : Type 0 where
+  pub stamps : length stamp ≡ 2048
+  pub places : length queue ≡ 2048
+  pub low : (y : ℕ) → y < n → getD stamp y 0 ≤ k
+
+pub zero-scratch : (n : ℕ) → n ≤ 2048 → Scratch n 0 (replicate 2048 0) (replicate 2048 0)
+zero-scratch n few = record {
+  stamps = length-replicate {A = ℕ} 2048 0;
+  places = length-replicate {A = ℕ} 2048 0;
+  low = λ y l. rw (getD-replicate {A = ℕ} 2048 y 0 0 (omega arith)) (omega arith);
+}
+
+-- ---- edge rule and vertex rule by faces
+
+module _ (t : Table) (r : ℕ) where
+  edge-joined : (i j : ℕ) → faceJoined t r (i ∷ j ∷ []) ≡ bothJoined t (t .id r i) (t .id r j)
+  unfolding faceJoined bothJoined both holdsFace
+  edge-joined i j = ap (connected (neighbours t)) (pick-same (t .rows) (holdsFace t r (i ∷ j ∷ [])) (both t (t .id r i) (t .id r j)) (λ s _. ap (λ (b : Bool). holds t s (t .id r i) && b) (and-true (holds t s (t .id r j)))))
+
+  vertex-joined : (c : ℕ) → faceJoined t r (c ∷ []) ≡ bothJoined t (t .id r c) (t .id r c)
+  unfolding faceJoined bothJoined both holdsFace
+  vertex-joined c = ap (connected (neighbours t)) (pick-same (t .rows) (holdsFace t r (c ∷ [])) (both t (t .id r c) (t .id r c)) (λ s _. and-true (holds t s (t .id r c)) ∙ sym (and-self (holds t s (t .id r c)))))
+
+  pub edges-joined : edgesJoined t r ≡ allJoined t 4 6 r
+  unfolding edgesJoined facesJoined edgeTable allJoined all idsJoined faceOf cornerOf faceCorners
+  edges-joined = rw (edge-joined 0 1, edge-joined 0 2, edge-joined 0 3, edge-joined 1 2, edge-joined 1 3, edge-joined 2 3) (simp (and-assoc, and-true))
+
+  pub vertices-joined : t .corners ≡ 4 → verticesJoined t r ≡ allJoined t 10 4 r
+  unfolding verticesJoined facesJoined vertices tabulate gather allJoined all idsJoined faceOf cornerOf faceCorners
+  vertices-joined four =
+      ap (λ (n : ℕ). facesJoined t r (vertices n)) four
+      ∙ rw (vertex-joined 0, vertex-joined 1, vertex-joined 2, vertex-joined 3) (simp (and-assoc, and-true))
+
+-- ---- how many rows hold an edge or a vertex
+
+pub both-count : (t : Table) → t .corners ≡ 4 → ((r : ℕ) → r < t .rows → Rising t r) → {base m : ℕ} → Kind base m → 4 ≤ base → (p : ℕ) → p < m * t .rows
+    → count (m * t .rows) (like t base m p) ≡ count (t .rows) (both t (faceAt t base m p .a) (faceAt t base m p .b))
+unfolding both holdsIds faceOf
+both-count t four up {base} {m} kind l p lp =
+    like-count t four up kind p lp
+    ∙ count-same (t .rows) (holdsIds t (faceAt t base m p)) (both t (faceAt t base m p .a) (faceAt t base m p .b)) (λ s _.
+    rw (repeats (base + p % m) (omega arith) (omega (arith, kind-small kind .2, mod-lt p (kind-small kind .0))))
+    (twice (holds t s (t .id (p / m) (cornerOf (base + p % m) 0))) (holds t s (t .id (p / m) (cornerOf (base + p % m) 1)))))
+  where
+    twice : (x y : Bool) → x && y && y ≡ x && y
+    twice x y = and-assoc x y y ∙ ap (λ (z : Bool). x && z) (and-self y)
+
+-- ---- the flood from a row
+
+-- from row x one leaves through a corner whose id is neither a nor b
+unfoldable pub leaves : Table → ℕ → ℕ → ℕ → ℕ → Bool
+leaves t a b x c = not (eqb (t .id x c) a) && not (eqb (t .id x c) b)
+
+-- from the start by neighbours that hold a and b
+abbrev pub Reach : Table → ℕ → ℕ → ℕ → ℕ → Type 0
+Reach t a b start = Chain (Picked (t .rows) (both t a b)) (λ x y. neighbours t x y ≡ true) start
+
+leaves-is : (t : Table) (a b x c : ℕ) → leaves t a b x c ≡ true → (t .id x c ≢ a) × (t .id x c ≢ b)
+unfolding leaves
+leaves-is t a b x c e = (
+  eqb-false (t .id x c) a (not-true (eqb (t .id x c) a) (and-first (not (eqb (t .id x c) a)) (not (eqb (t .id x c) b)) e)),
+  eqb-false (t .id x c) b (not-true (eqb (t .id x c) b) (and-second (not (eqb (t .id x c) a)) (not (eqb (t .id x c) b)) e)),
+)
+
+leaves-not : (t : Table) (a b x c : ℕ) → leaves t a b x c ≡ false → (t .id x c ≡ a) ⊎ (t .id x c ≡ b)
+unfolding leaves
+leaves-not t a b x c e =
+    ⊎-elim (λ i. inl (eqb-true (t .id x c) a i)) (λ n. ⊎-elim (λ j. inr (eqb-true (t .id x c) b j)) (λ o. absurd (not-both (and-both (ap not n) (ap not o)) e)) (true-or-false (eqb (t .id x c) b)))
+    (true-or-false (eqb (t .id x c) a))
+
+module _ (t : Table) (a b : ℕ) where
+  both-holds : (s : ℕ) → both t a b s ≡ true → Holds t s a × Holds t s b
+  unfolding both
+  both-holds s e = (holds-reads t s a .0 (and-first (holds t s a) (holds t s b) e), holds-reads t s b .0 (and-second (holds t s a) (holds t s b) e))
+
+  holds-both : (s : ℕ) → Holds t s a → Holds t s b → both t a b s ≡ true
+  unfolding both
+  holds-both s h k = and-both (holds-reads t s a .1 h) (holds-reads t s b .1 k)
+
+module _ (t : Table) (four : t .corners ≡ 4) (up : (r : ℕ) → r < t .rows → Rising t r) (two : (r : ℕ) → r < t .rows → TrianglesShared t r) where
+  the-across : (x c : ℕ) → x < t .rows → c < 4 → TheOther (t .rows) (Side t x c) x
+  the-across x c l m = the-other (two x l c (rw four m)) x l (side-self t x c)
+
+  pub across-below : (x c : ℕ) → x < t .rows → c < 4 → across t x c < t .rows
+  across-below x c l m = rw (across-other t x c (the-across x c l m)) (the-across x c l m .below)
+
+  -- a move keeps to rows that hold a and b
+  pub move-good : (a b start x c : ℕ) → x < t .rows → c < 4 → Reach t a b start x → leaves t a b x c ≡ true → Reach t a b start (across t x c)
+  move-good a b start x c l m reach w =
+      let o = the-across x c l m in
+      let (na, nb) = leaves-is t a b x c w in
+      let (ha, hb) = both-holds t a b x (chain-ends reach .1) in
+      rw (across-other t x c o) (chain-join reach (step (chain-ends reach) (neighbours-read t x (o .other) .1 (λ (e : x ≡ o .other). o .differs (sym e), (c, rw four m, o .is)))
+      (stay (o .below, holds-both t a b (o .other) (kept a na ha (o .is)) (kept b nb hb (o .is))) refl)))
+    where
+      kept : (v : ℕ) → t .id x c ≢ v → Holds t x v → {y : ℕ} → Side t x c y → Holds t y v
+      kept v ne (k, lk, e) {y} on = subst (Holds t y) e (on k lk (λ (f : k ≡ c). ne (ap (t .id x) (sym f) ∙ e)))
+
+  -- a row has a corner through which one leaves
+  way-out : (a b x : ℕ) → x < t .rows → (c : ℕ) × (c < 4) × (leaves t a b x c ≡ true)
+  way-out a b x l =
+      ⊎-elim (λ w. (0, lit< tt, w)) (λ off. ⊎-elim (λ w. (1, lit< tt, w)) (λ off′. ⊎-elim (λ w. (2, lit< tt, w)) (λ off″. absurd (three
+      (up x l 0 1 (lit< tt) (rw four (lit< tt))) (up x l 1 2 (lit< tt) (rw four (lit< tt))) (leaves-not t a b x 0 off) (leaves-not t a b x 1 off′) (leaves-not t a b x 2 off″)))
+      (true-or-false (leaves t a b x 2))) (true-or-false (leaves t a b x 1))) (true-or-false (leaves t a b x 0))
+    where
+      -- three different ids are not all a or b
+      three : {i j k : ℕ} → i < j → j < k → (i ≡ a) ⊎ (i ≡ b) → (j ≡ a) ⊎ (j ≡ b) → (k ≡ a) ⊎ (k ≡ b) → ⊥
+      three l m (inl p) (inl q) e = omega arith
+      three l m (inr p) (inr q) e = omega arith
+      three l m (inl p) (inr q) (inl e) = omega arith
+      three l m (inl p) (inr q) (inr e) = omega arith
+      three l m (inr p) (inl q) (inl e) = omega arith
+      three l m (inr p) (inl q) (inr e) = omega arith
+
+  -- neighbours that hold a and b are a move apart
+  pub step-is-move : (a b x y : ℕ) → Picked (t .rows) (both t a b) x → Picked (t .rows) (both t a b) y → neighbours t x y ≡ true
+      → (c : ℕ) × (c < 4) × (leaves t a b x c ≡ true) × (across t x c ≡ y)
+  step-is-move a b x y (lx, hx) (ly, hy) n = apart (neighbours-read t x y .0 n)
+    where
+      -- the row across a triangle that y holds is y
+      is-across : x ≢ y → (c : ℕ) → c < 4 → Side t x c y → across t x c ≡ y
+      is-across ne c lc on = let o = the-across x c lx lc in across-other t x c o ∙ sym (o .only y ly on (λ (e : y ≡ x). ne (sym e)))
+
+      -- where the corner between them has the id a or b, row y holds all ids of x, and any way out will do
+      apart : Neighbours t x y → (c : ℕ) × (c < 4) × (leaves t a b x c ≡ true) × (across t x c ≡ y)
+      apart (ne, (c, lc, on)) =
+          ⊎-elim (λ w. (c, rw four at lc, w, is-across ne c (rw four at lc) on))
+          (λ off. let (d, ld, w) = way-out a b x lx in (d, ld, w, is-across ne d ld (λ k lk _. whole off k lk))) (true-or-false (leaves t a b x c))
+        where
+          shared : leaves t a b x c ≡ false → Holds t y (t .id x c)
+          shared off =
+              let (ha, hb) = both-holds t a b y hy in
+              ⊎-elim (λ e. subst (Holds t y) (sym e) ha) (λ e. subst (Holds t y) (sym e) hb) (leaves-not t a b x c off)
+
+          whole : leaves t a b x c ≡ false → (k : ℕ) → k < t .corners → Holds t y (t .id x k)
+          whole off k lk = ⊎-elim (λ (e : k ≡ c). subst (λ (j : ℕ). Holds t y (t .id x j)) (sym e) (shared off)) (λ other. on k lk other) (same-or-not k c)
+
+  -- As many rows are reached as hold a and b, exactly if these are joined.
+  pub joined-by-count : (a b k start : ℕ) (stamp : List ℕ) (reached : ℕ) → Picked (t .rows) (both t a b) start
+      → Flooded (t .rows) k start (leaves t a b) (across t) (Reach t a b start) stamp reached → eqb reached (count (t .rows) (both t a b)) ≡ bothJoined t a b
+  unfolding bothJoined
+  joined-by-count a b k start stamp reached begin f =
+      same-test (eqb reached (count (t .rows) (both t a b))) (bothJoined t a b)
+      (λ e. joined (count-le-same (t .rows) (stamped k stamp) (both t a b) within (sym (f .counted) ∙ eqb-true reached (count (t .rows) (both t a b)) e)))
+      (λ j. eq-eqb reached (count (t .rows) (both t a b)) (f .counted ∙ count-same (t .rows) (stamped k stamp) (both t a b)
+      (λ y l. same-test (stamped k stamp y) (both t a b y) (within y l) (λ h. passed j y (l, h)))))
+    where
+      within : (y : ℕ) → y < t .rows → stamped k stamp y ≡ true → both t a b y ≡ true
+      within y l s = chain-ends (f .good y l s) .1
+
+      bothWays : (x y : ℕ) → Picked (t .rows) (both t a b) x → Picked (t .rows) (both t a b) y → neighbours t x y ≡ true → neighbours t y x ≡ true
+      bothWays x y (lx, _) (ly, _) n = neighbours-read t y x .1 (neighbours-back t x y (up x lx) (up y ly) (neighbours-read t x y .0 n))
+
+      joined : ((y : ℕ) → y < t .rows → both t a b y ≡ true → stamped k stamp y ≡ true) → bothJoined t a b ≡ true
+      joined each =
+          chain-picked (neighbours t) (t .rows) (both t a b) (λ x y (lx, hx) (ly, hy). chain-join (chain-back bothWays (f .good x lx (each x lx hx))) (f .good y ly (each y ly hy)))
+
+      passed : bothJoined t a b ≡ true → (y : ℕ) → Picked (t .rows) (both t a b) y → stamped k stamp y ≡ true
+      passed j y held =
+          chain-passes (λ z. stamped k stamp z ≡ true)
+          (λ x z px pz n s. let (c, lc, w, e) = step-is-move a b x z px pz n in subst (λ (u : ℕ). stamped k stamp u ≡ true) e (f .closed x c (px .0) lc s w))
+          (picked-chain (neighbours t) (t .rows) (both t a b) bothWays j start y begin held) (f .begun)
+
+-- ---- the flood over a row section
+
+abbrev pub FloodingRows : List ℕ → ℕ → ℕ → ℕ → ℕ → List ℕ → List ℕ → ℕ → ℕ → Type 0
+FloodingRows bytes a b start k = Flooding (length bytes / 16) k start (leaves (tableIn bytes) a b) (across (tableIn bytes)) (Reach (tableIn bytes) a b start)
+
+shared-triangles : {bytes work : List ℕ} → Neighboured bytes work → (r : ℕ) → r < length bytes / 16 → TrianglesShared (tableIn bytes) r
+shared-triangles {bytes} nb r l = triangles-read (tableIn bytes) r .0 (nb .shared r l)
+
+module _ {bytes work : List ℕ} (nb : Neighboured bytes work) (a b start k : ℕ) where
+  pub rows-begin : (stamp queue : List ℕ) → start < length bytes / 16 → both (tableIn bytes) a b start ≡ true → length stamp ≡ 2048 → length queue ≡ 2048
+      → ((y : ℕ) → y < length bytes / 16 → getD stamp y 0 < k) → FloodingRows bytes a b start k (set stamp start k) (set queue 0 start) 0 1
+  rows-begin stamp queue l held = flood-begins (length bytes / 16) k start (leaves (tableIn bytes) a b) (across (tableIn bytes)) (Reach (tableIn bytes) a b start) stamp queue l (nb .rows .few) (stay (l, held) refl)
+
+  module _ {stamp queue : List ℕ} {i tail : ℕ} (f : FloodingRows bytes a b start k stamp queue i tail) where
+    pub few-reached : tail ≤ 2048
+    few-reached = omega (arith, nb .rows .few, f .counted, count-not (length bytes / 16) (stamped k stamp))
+
+    pub rows-end : start < length bytes / 16 → both (tableIn bytes) a b start ≡ true → 4 * tail ≤ i → (eqb tail (count (length bytes / 16) (both (tableIn bytes) a b)) ≡ bothJoined (tableIn bytes) a b)
+        × (length stamp ≡ 2048) × (length queue ≡ 2048) × ((y : ℕ) → y < length bytes / 16 → getD stamp y 0 ≤ k)
+    rows-end ls held l = (joined-by-count (tableIn bytes) refl (each-rising (nb .rows)) (shared-triangles nb) a b k start stamp tail (ls, held) (flood-ends (length bytes / 16) k start (leaves (tableIn bytes) a b) (across (tableIn bytes)) (Reach (tableIn bytes) a b start) f l), f .stamps, f .places, f .low)
+
+    module _ (l : i < 4 * tail) {x : ℕ} (ex : x ≡ getD queue (i / 4) 0) where
+      pub reached-below : x < length bytes / 16
+      reached-below = rw ex (f .inside (i / 4) (omega arith) .0)
+
+      module _ {y : ℕ} (ey : y ≡ getD work (4 * x + i % 4) 0) where
+        is-across : y ≡ across (tableIn bytes) x (i % 4)
+        is-across = ey ∙ nb .at x (i % 4) reached-below (omega arith)
+
+        pub next-below : y < length bytes / 16
+        next-below = rw is-across (across-below (tableIn bytes) refl (each-rising (nb .rows)) (shared-triangles nb) x (i % 4) reached-below (omega arith))
+
+        module _ {way : Bool} (ew : way ≡ leaves (tableIn bytes) a b x (i % 4)) where
+          -- a fresh row finds room in the queue
+          pub next-room : (way && not (eqb (getD stamp y 0) k)) ≡ true → tail < 2048
+          unfolding stamped
+          next-room on =
+              omega (
+                arith,
+                nb .rows .few,
+                flood-room (length bytes / 16) k start (leaves (tableIn bytes) a b) (across (tableIn bytes)) (Reach (tableIn bytes) a b start) f y next-below
+                    (not-true (stamped k stamp y) (and-second way (not (stamped k stamp y)) on)),
+              )
+
+          pub rows-turn : {stamp′ queue′ : List ℕ} {tail′ : ℕ} → stamp′ ≡ cond (way && not (eqb (getD stamp y 0) k)) (set stamp y k) stamp
+              → queue′ ≡ cond (way && not (eqb (getD stamp y 0) k)) (set queue tail y) queue → tail′ ≡ cond (way && not (eqb (getD stamp y 0) k)) (tail + 1) tail
+              → FloodingRows bytes a b start k stamp′ queue′ (i + 1) tail′
+          unfolding stamped
+          rows-turn =
+              flood-turn (length bytes / 16) k start (leaves (tableIn bytes) a b) (across (tableIn bytes)) (Reach (tableIn bytes) a b start) f l ex is-across (nb .rows .few) next-below
+              (λ w. rw is-across (move-good (tableIn bytes) refl (each-rising (nb .rows)) (shared-triangles nb) a b start x (i % 4) reached-below (omega arith) (rw ex (f .inside (i / 4) (omega arith) .1)) w))
+              (ap (λ (v : Bool). v && not (eqb (getD stamp y 0) k)) ew)
+
+-- ---- the edge rule and the vertex rule, place by place
+
+abbrev pub unjoinedAt : Table → ℕ → ℕ → ℕ → Bool
+unjoinedAt t base m q = not (idsJoined t (faceAt t base m q))
+
+module _ (bytes : List ℕ) {base m : ℕ} (joint : Joint base m) where
+  -- the rule at a row
+  rule-by-places : (up : (r : ℕ) → r < length bytes / 16 → Rising (tableIn bytes) r) (r : ℕ) → r < length bytes / 16
+      → allJoined (tableIn bytes) base m r ≡ all m (λ e. idsJoined (tableIn bytes) (faceAt (tableIn bytes) base m (m * r + e)))
+  unfolding allJoined
+  rule-by-places up r l =
+      all-same m (λ e. idsJoined (tableIn bytes) (faceOf (tableIn bytes) r (base + e))) (λ e. idsJoined (tableIn bytes) (faceAt (tableIn bytes) base m (m * r + e)))
+      (λ e k. ap (idsJoined (tableIn bytes)) (sym (face-at (tableIn bytes) refl up (joint .0) r e k)))
+
+  -- a place that is not the first with its ids is joined as the first is
+  pub joined-before : (place : ℕ) → ((q : ℕ) → q < place → idsJoined (tableIn bytes) (faceAt (tableIn bytes) base m q) ≡ true)
+      → {first : Bool} → first ≡ not (any place (like (tableIn bytes) base m place)) → first ≡ false → true ≡ idsJoined (tableIn bytes) (faceAt (tableIn bytes) base m place)
+  unfolding like
+  joined-before place earlier e off =
+      let (q, l, same) = any-some place (like (tableIn bytes) base m place) (not-false (any place (like (tableIn bytes) base m place)) (sym e ∙ off)) in
+      sym (ap (idsJoined (tableIn bytes)) (same-ids (faceAt (tableIn bytes) base m place) (faceAt (tableIn bytes) base m q) same) ∙ earlier q l)
+
+  -- the row of a place holds its face
+  pub own-both : (place : ℕ) {f : Face} → f ≡ faceAt (tableIn bytes) base m place → both (tableIn bytes) (f .a) (f .b) (place / m) ≡ true
+  unfolding both holdsIds
+  own-both place {f} e =
+      rw e (and-first (held (faceAt t base m place .a) && held (faceAt t base m place .b)) (held (faceAt t base m place .c))
+      (own-face t refl (place / m) (base + place % m) (omega (arith, kind-small (joint .0) .2, mod-lt place (kind-small (joint .0) .0)))))
+    where
+      t : Table
+      t = tableIn bytes
+
+      held : ℕ → Bool
+      held v = holds t (place / m) v
+
+  -- the flood has reached as many rows as there are places with the ids
+  pub joined-found : RisingRows bytes → (place : ℕ) → place < m * (length bytes / 16) → {f : Face} → f ≡ faceAt (tableIn bytes) base m place → (reached : ℕ) {n : ℕ}
+      → eqb reached (count (length bytes / 16) (both (tableIn bytes) (f .a) (f .b))) ≡ bothJoined (tableIn bytes) (f .a) (f .b)
+      → n ≡ count (m * (length bytes / 16)) (like (tableIn bytes) base m place) → eqb reached n ≡ idsJoined (tableIn bytes) (faceAt (tableIn bytes) base m place)
+  unfolding idsJoined
+  joined-found rows place l {f} e reached found counted =
+      ap (eqb reached) (counted ∙ both-count (tableIn bytes) refl (each-rising rows) (joint .0) (joint .1) place l) ∙ (rw e at found)
+
+  pub unjoined-row : RisingRows bytes → (p : ℕ) → lowest (m * (length bytes / 16)) (unjoinedAt (tableIn bytes) base m) ≡ some p → some (p / m) ≡ lowest (length bytes / 16) (unjoined (tableIn bytes) base m)
+  unjoined-row rows p e =
+      sym (broken-row (kind-small (joint .0) .0) (length bytes / 16) (λ q. idsJoined (tableIn bytes) (faceAt (tableIn bytes) base m q)) (allJoined (tableIn bytes) base m)
+      (rule-by-places (each-rising rows)) p e)
+
+  pub unjoined-none : RisingRows bytes → lowest (m * (length bytes / 16)) (unjoinedAt (tableIn bytes) base m) ≡ none → none ≡ lowest (length bytes / 16) (unjoined (tableIn bytes) base m)
+  unjoined-none rows e =
+      sym (broken-none (kind-small (joint .0) .0) (length bytes / 16) (λ q. idsJoined (tableIn bytes) (faceAt (tableIn bytes) base m q)) (allJoined (tableIn bytes) base m)
+      (rule-by-places (each-rising rows)) e)

@@ -1,0 +1,100 @@
+// Edge rule and vertex rule. Codes 8 and 9.
+use crate::Found;
+use crate::chains::first_like;
+use crate::chains::like_places;
+use crate::chains::thread;
+use crate::faces::face_at;
+use crate::faces::row_of;
+use crate::flood::flood;
+ghost use mathlib.Core.Path.{_≡_};
+ghost use mathlib.Core.Bool.{true};
+ghost use Prim.Native.Nat.{ℕ, _+_, _*_, _/_, _<_};
+ghost use lib.ListN.{length};
+ghost use Rattle.rules.specs.Below.{lowest};
+ghost use Rattle.table.specs.Rows.{tableIn, placeOf};
+ghost use Rattle.table.specs.Places.{faceAt, Chained};
+ghost use Rattle.table.specs.Triangles.{Neighboured};
+ghost use Rattle.table.specs.Holders.{Joint, idsJoined, unjoined, Scratch};
+
+// The rows that hold the face at a place are joined. Each face is looked at once, at its first place: the earlier ones are joined.
+fn face_joined(
+    rows: &[u8],
+    neighbours: &[u32],
+    base: usize,
+    m: usize,
+    head: &[u16; 8192],
+    next: &[u16; 12288],
+    stamp: &mut [u16; 2048],
+    queue: &mut [u16; 2048],
+    place: usize,
+) -> bool
+    requires { ⌜ Neighboured (now rows) (now neighbours) × Joint base m × Chained (tableIn (now rows)) base m (now head) (now next)
+        × Scratch (length (now rows) / 16) place (now stamp) (now queue) × (place < m * (length (now rows) / 16))
+        × ((q : ℕ) → q < place → idsJoined (tableIn (now rows)) (faceAt (tableIn (now rows)) base m q) ≡ true) ⌝ }
+    ensures { λ r. ⌜ (r ≡ idsJoined (tableIn (now (rows .entry))) (faceAt (tableIn (now (rows .entry))) base m place))
+        × Scratch (length (now (rows .entry)) / 16) (place + 1) (now (stamp .exit)) (now (queue .exit)) ⌝ }
+{
+    if !first_like(rows, base, m, head, next, place) {
+        return true;
+    }
+    let face = face_at(rows, base, m, place);
+    let reached = flood(
+        rows,
+        neighbours,
+        face.a,
+        face.b,
+        row_of(place, m),
+        (place + 1) as u16,
+        stamp,
+        queue,
+    );
+    let found = like_places(rows, base, m, head, next, place);
+    reached == found.count
+}
+
+fn broken_by(
+    rows: &[u8],
+    neighbours: &[u32],
+    base: usize,
+    m: usize,
+    head: &[u16; 8192],
+    next: &[u16; 12288],
+    stamp: &mut [u16; 2048],
+    queue: &mut [u16; 2048],
+) -> Found
+    requires { ⌜ Neighboured (now rows) (now neighbours) × Joint base m × Chained (tableIn (now rows)) base m (now head) (now next)
+        × Scratch (length (now rows) / 16) 0 (now stamp) (now queue) ⌝ }
+    ensures { λ r. ⌜ placeOf r ≡ lowest (length (now (rows .entry)) / 16) (unjoined (tableIn (now (rows .entry))) base m) ⌝ }
+{
+    let end = m * (rows.len() / 16);
+    let mut place = 0;
+    while place < end {
+        if !face_joined(rows, neighbours, base, m, head, next, stamp, queue, place) {
+            return Found::At(row_of(place, m));
+        }
+        place += 1;
+    }
+    Found::Nowhere
+}
+
+// The first row with an edge, or with a vertex, whose rows are not joined.
+pub(crate) fn broken_face(rows: &[u8], neighbours: &[u32], base: usize, m: usize) -> Found
+    requires { ⌜ Neighboured (now rows) (now neighbours) × Joint base m ⌝ }
+    ensures { λ r. ⌜ placeOf r ≡ lowest (length (now (rows .entry)) / 16) (unjoined (tableIn (now (rows .entry))) base m) ⌝ }
+{
+    let mut head = [(m * (rows.len() / 16)) as u16; 8192];
+    let mut next = [0u16; 12288];
+    thread(rows, base, m, &mut head, &mut next);
+    let mut stamp = [0u16; 2048];
+    let mut queue = [0u16; 2048];
+    broken_by(
+        rows,
+        neighbours,
+        base,
+        m,
+        &head,
+        &next,
+        &mut stamp,
+        &mut queue,
+    )
+}
