@@ -2,7 +2,7 @@
 -- their last corner. So the three rules are asked of faces of one form.
 use mathlib.Core.Path.{_≡_, refl, sym, ap, _∙_}
 use mathlib.Core.Logic.{_⊎_, inl, inr, ⊎-elim}
-use mathlib.Core.Bool.{Bool, true, false, not, _&&_, _||_, Bool·beq}
+use mathlib.Core.Bool.{Bool, true, false, not, _&&_, _||_, cond, Bool·beq}
 use mathlib.Core.List.{List, [], _∷_}
 use Prim.Native.Nat.{ℕ, _+_, _*_, _%_, _≤_, _<_}
 use native.Mathlib.Omega.{arith}
@@ -92,10 +92,11 @@ kind-small (inl (b, n)) = rw (b, n) (lit< tt, lit≤ tt, lit≤ tt)
 kind-small (inr (inl (b, n))) = rw (b, n) (lit< tt, lit≤ tt, lit≤ tt)
 kind-small (inr (inr (b, n))) = rw (b, n) (lit< tt, lit≤ tt, lit≤ tt)
 
-pub kind-four-or-six : {base m : ℕ} → Kind base m → (m ≡ 4) ⊎ (m ≡ 6)
-kind-four-or-six (inl (b, n)) = inl n
-kind-four-or-six (inr (inl (b, n))) = inr n
-kind-four-or-six (inr (inr (b, n))) = inl n
+-- a division by 4 or by 6 is one by m
+pub four-or-six : {base m : ℕ} → Kind base m → (f : ℕ → ℕ) → cond (eqb m 4) (f 4) (f 6) ≡ f m
+four-or-six (inl (b, n)) f = rw n
+four-or-six (inr (inl (b, n))) f = rw n
+four-or-six (inr (inr (b, n))) f = rw n
 
 corners-pass : all 14 (λ face. all 3 (λ k. ltb (cornerOf face k) 4)) ≡ true
 unfolding all cornerOf faceCorners

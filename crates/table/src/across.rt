@@ -2,25 +2,22 @@
 use crate::Found;
 use crate::chains::like_places;
 use crate::chains::thread;
+use crate::clear;
 ghost use mathlib.Core.Path.{_≡_};
-ghost use Prim.Native.Nat.{_*_, _/_, _≤_};
-ghost use lib.ListN.{length, replicate};
+ghost use Prim.Native.Nat.{_*_, _/_, _≤_, _<_};
+ghost use lib.ListN.{length, set};
 ghost use Rattle.rules.specs.Below.{lowest};
 ghost use Rattle.rules.specs.Job.{written};
 ghost use Rattle.table.specs.Rows.{tableIn, placeOf, RisingRows};
 ghost use Rattle.table.specs.Places.{Chained};
 ghost use Rattle.table.specs.Triangles.{unshared, frontAfter};
 
-// Leaves zero in the first `n` words.
-pub fn clear(work: &mut [u32], n: usize)
-    requires { ⌜ n ≤ length (now work) ⌝ }
-    ensures { λ _. ⌜ now (work .exit) ≡ written (replicate n 0) (now (work .entry)) ⌝ }
+// Writes a row's number at a place of the list.
+fn put(work: &mut [u32], place: usize, row: usize)
+    requires { ⌜ (place < length (now work)) × (row ≤ 2048) ⌝ }
+    ensures { λ _. ⌜ now (work .exit) ≡ set (now (work .entry)) place row ⌝ }
 {
-    let mut i = 0;
-    while i < n {
-        work[i] = 0;
-        i += 1;
-    }
+    work[place] = row as u32;
 }
 
 // The first row with a triangle that is not in exactly two rows; without one, the neighbour list is written.
@@ -37,7 +34,7 @@ fn neighbours_by(rows: &[u8], head: &[u16; 8192], next: &[u16; 12288], work: &mu
             clear(work, end);
             return Found::At(place / 4);
         }
-        work[place] = (found.other / 4) as u32;
+        put(work, place, found.other / 4);
         place += 1;
     }
     Found::Nowhere

@@ -2,9 +2,10 @@
 // the number of places stands for none.
 use crate::faces::face_at;
 use crate::faces::key_of;
+use crate::faces::pick;
 use crate::faces::same_ids;
 ghost use mathlib.Core.Path.{_≡_};
-ghost use mathlib.Core.Bool.{not, cond};
+ghost use mathlib.Core.Bool.{not};
 ghost use Prim.Native.Nat.{ℕ, _*_, _/_, _≤_, _<_};
 ghost use lib.ListN.{length, getD, set};
 ghost use Rattle.rules.specs.Below.{any, count};
@@ -61,12 +62,6 @@ fn next_place(next: &[u16; 12288], place: usize) -> usize
     ensures { λ r. ⌜ r ≡ getD (now (next .entry)) place 0 ⌝ }
 {
     wide(next[place])
-}
-
-fn pick(b: bool, x: usize, y: usize) -> usize
-    ensures { λ r. ⌜ r ≡ cond b x y ⌝ }
-{
-    if b { x } else { y }
 }
 
 pub(crate) struct Like {

@@ -2,9 +2,10 @@
 use crate::id_at;
 ghost use mathlib.Core.Path.{_≡_};
 ghost use Prim.Native.Nat.{_*_, _/_, _%_, _<_};
+ghost use lib.Dec.{eqb};
 ghost use lib.ListN.{length};
 ghost use Rattle.table.specs.Rows.{tableIn};
-ghost use mathlib.Core.Logic.{_⊎_};
+ghost use mathlib.Core.Bool.{cond};
 ghost use Rattle.table.specs.Faces.{cornerOf, Kind, faceOf, sameIds, keyOf};
 ghost use Rattle.table.specs.Places.{faceAt};
 
@@ -91,19 +92,23 @@ pub(crate) fn same_ids(f: Face, g: Face) -> bool
     (f.a == g.a) & (f.b == g.b) & (f.c == g.c)
 }
 
-// The row of a place. A division by a constant is quick.
-pub(crate) fn row_of(place: usize, m: usize) -> usize
-    requires { ⌜ ((m ≡ 4) ⊎ (m ≡ 6)) ⌝ }
-    ensures { λ r. ⌜ r ≡ place / m ⌝ }
+pub(crate) fn pick(b: bool, x: usize, y: usize) -> usize
+    ensures { λ r. ⌜ r ≡ cond b x y ⌝ }
 {
-    if m == 4 { place / 4 } else { place / 6 }
+    if b { x } else { y }
+}
+
+// The row of a place. Divisions by constants are quick.
+pub(crate) fn row_of(place: usize, m: usize) -> usize
+    ensures { λ r. ⌜ r ≡ cond (eqb m 4) (place / 4) (place / 6) ⌝ }
+{
+    pick(m == 4, place / 4, place / 6)
 }
 
 fn within_row(place: usize, m: usize) -> usize
-    requires { ⌜ ((m ≡ 4) ⊎ (m ≡ 6)) ⌝ }
-    ensures { λ r. ⌜ r ≡ place % m ⌝ }
+    ensures { λ r. ⌜ r ≡ cond (eqb m 4) (place % 4) (place % 6) ⌝ }
 {
-    if m == 4 { place % 4 } else { place % 6 }
+    pick(m == 4, place % 4, place % 6)
 }
 
 // The face at a place: of the faces from `base` on, `m` to a row.

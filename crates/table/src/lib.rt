@@ -6,7 +6,6 @@ mod flood;
 mod joined;
 mod rows;
 
-use across::clear;
 use across::neighbours;
 use joined::broken_face;
 use rows::bad_row;
@@ -14,7 +13,7 @@ use rows::out_of_order;
 use words::word_at;
 ghost use mathlib.Core.Path.{_≡_};
 ghost use Prim.Native.Nat.{_+_, _*_, _/_, _≤_, _<_};
-ghost use lib.ListN.{length, getD};
+ghost use lib.ListN.{length, getD, replicate};
 ghost use Rattle.rules.specs.First.{firstMatch};
 ghost use Rattle.rules.specs.Job.{written, tableTests};
 ghost use Rattle.table.specs.Rows.{idIn, tableIn, RisingRows};
@@ -61,6 +60,18 @@ fn wide(x: u32) -> usize
     ensures { λ r. ⌜ r ≡ x ⌝ }
 {
     x as usize
+}
+
+// Leaves zero in the first `n` words.
+pub fn clear(work: &mut [u32], n: usize)
+    requires { ⌜ n ≤ length (now work) ⌝ }
+    ensures { λ _. ⌜ now (work .exit) ≡ written (replicate n 0) (now (work .entry)) ⌝ }
+{
+    let mut i = 0;
+    while i < n {
+        work[i] = 0;
+        i += 1;
+    }
 }
 
 fn check_joined(rows: &[u8], neighbours: &[u32]) -> Broken

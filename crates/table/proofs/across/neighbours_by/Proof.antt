@@ -1,6 +1,6 @@
-use Rattle.table.specs.Walk.{another}
 use Rattle.table.specs.Triangles.{Listed, list-begins, list-turn, list-refuses, list-cleared, list-ends, frontAfter}
 use Rattle.table.specs.Chains.{highest-small}
+use Rattle.table.specs.Walk.{another}
 use Rattle.table.specs.Faces.{triangles}
 use Rattle.table.specs.Rows.{tableIn, each-rising}
 use borrow.Author.Needs.{needs}
@@ -36,14 +36,8 @@ returns : tie.Need-returns Inv-loop μ-loop
 unfolding frontAfter
 returns c = (list-refuses _ refl (each-rising (c .before .before .before .before .before .before .before .before .before .before .before .pre .0)) (c .before .before .before .before .before .before .before .before .loop .inv) (c .before .before .before .before .before .before .before .loop-test .taken) (c .before .before .before .before .before .before .like-places .ensures .0) (c .before .before .before .before .if1 .taken), list-cleared _ refl (each-rising (c .before .before .before .before .before .before .before .before .before .before .before .pre .0)) (c .before .before .before .before .before .before .before .before .loop .inv) (c .before .before .clear .ensures))
 
-cast-work : tie.Need-cast-work Inv-loop μ-loop
-cast-work c = omega (arith, c .before .before .before .before .before .before .before .before .pre .0 .few, c .before .before .before .like-places .ensures .1, highest-small (4 * (length (c .before .before .before .before .before .before .before .before .args .rows .now) / 16)) (another (tableIn (c .before .before .before .before .before .before .before .before .args .rows .now)) 0 4 (c .before .before .before .before .before .loop .place)))
-
-mul-work : tie.Need-mul-work Inv-loop μ-loop
-mul-work c = search needs
-
-slice-write-work : tie.Need-slice-write-work Inv-loop μ-loop
-slice-write-work c = rw (c .before .before .before .before .before .loop .inv .kept) (omega (arith, c .before .before .before .before .before .before .before .before .pre .2, c .before .before .before .before .loop-test .taken))
+put-requires : tie.Need-put-requires Inv-loop μ-loop
+put-requires c κs = (rw (c .before .before .before .before .before .before .loop .inv .kept) (omega (arith, c .before .before .before .before .before .before .before .before .before .pre .2, c .before .before .before .before .before .loop-test .taken)), omega (arith, c .before .before .before .before .before .before .before .before .before .pre .0 .few, c .before .before .before .before .like-places .ensures .1, highest-small (4 * (length (c .before .before .before .before .before .before .before .before .before .args .rows .now) / 16)) (another (tableIn (c .before .before .before .before .before .before .before .before .before .args .rows .now)) 0 4 (c .before .before .before .before .before .before .loop .place))))
 
 add-place : tie.Need-add-place Inv-loop μ-loop
 add-place c = search needs
@@ -52,7 +46,7 @@ loop-less : tie.Need-loop-less Inv-loop μ-loop
 loop-less c = search needs
 
 loop-again : tie.Need-loop-again Inv-loop μ-loop
-loop-again c = list-turn _ refl (each-rising (c .before .before .before .before .before .before .before .before .pre .0)) (c .before .before .before .before .before .loop .inv) (c .before .before .before .before .loop-test .taken) (c .before .before .before .like-places .ensures .0) (c .before .before .before .before .before .before .before .before .pre .2) (c .before .before .before .like-places .ensures .1) (c .before .if1 .left)
+loop-again c = rw (c .before .before .put .ensures) (list-turn _ refl (each-rising (c .before .before .before .before .before .before .before .before .before .before .before .before .pre .0)) (c .before .before .before .before .before .before .before .before .before .loop .inv) (c .before .before .before .before .before .before .before .before .loop-test .taken) (c .before .before .before .before .before .before .before .like-places .ensures .0) (c .before .before .before .before .before .before .before .before .before .before .before .before .pre .2) (c .before .before .before .before .before .before .before .like-places .ensures .1) (c .before .before .before .before .before .if1 .left))
 
 same-length-2 : tie.Need-same-length-2 Inv-loop μ-loop
 same-length-2 c = c .before .loop .inv .kept
@@ -73,9 +67,7 @@ neighbours-by-spec =
     clear-requires
     same-length
     returns
-    cast-work
-    mul-work
-    slice-write-work
+    put-requires
     add-place
     loop-less
     loop-again

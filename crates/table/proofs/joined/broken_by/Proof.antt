@@ -1,6 +1,6 @@
 use Rattle.table.specs.Holders.{Scratch, unjoinedAt, unjoined-row, unjoined-none}
 use Rattle.table.specs.Places.{places-fit}
-use Rattle.table.specs.Faces.{kind-four-or-six}
+use Rattle.table.specs.Faces.{four-or-six}
 use Rattle.table.specs.Rows.{tableIn}
 use Rattle.rules.specs.Laws.Below.{lowest-none, searched-more, search-stops, search-ends}
 use Rattle.rules.specs.Below.{lowest}
@@ -31,10 +31,10 @@ face-joined-requires : tie.Need-face-joined-requires Inv-loop μ-loop
 face-joined-requires c κs = (c .before .before .before .before .before .before .pre .0, c .before .before .before .before .before .before .pre .1, c .before .before .before .before .before .before .pre .2, c .before .before .before .loop .inv .2, c .before .before .loop-test .taken, λ q l. not-false _ (lowest-none (c .before .before .before .loop .place) (unjoinedAt (tableIn (c .before .before .before .before .before .before .args .rows .now)) (c .before .before .before .before .before .before .args .base) (c .before .before .before .before .before .before .args .m)) (c .before .before .before .loop .inv .1) q l))
 
 row-of-requires : tie.Need-row-of-requires Inv-loop μ-loop
-row-of-requires c κs = kind-four-or-six (c .before .before .before .before .before .before .before .before .pre .1 .0)
+row-of-requires c κs = tt
 
 returns : tie.Need-returns Inv-loop μ-loop
-returns c = ap some (c .row-of .ensures) ∙ unjoined-row (c .before .before .before .before .before .before .before .before .before .args .rows .now) (c .before .before .before .before .before .before .before .before .before .pre .1) (c .before .before .before .before .before .before .before .before .before .pre .0 .rows) (c .before .before .before .before .before .before .loop .place) (search-stops _ _ (unjoinedAt (tableIn (c .before .before .before .before .before .before .before .before .before .args .rows .now)) (c .before .before .before .before .before .before .before .before .before .args .base) (c .before .before .before .before .before .before .before .before .before .args .m)) (c .before .before .before .before .before .before .loop .inv .1) (c .before .before .before .before .before .loop-test .taken) (rw (← c .before .before .face-joined .ensures .0) (c .before .if1 .taken)))
+returns c = ap some (c .row-of .ensures ∙ four-or-six (c .before .before .before .before .before .before .before .before .before .pre .1 .0) (λ n. c .before .before .before .before .before .before .loop .place / n)) ∙ unjoined-row (c .before .before .before .before .before .before .before .before .before .args .rows .now) (c .before .before .before .before .before .before .before .before .before .pre .1) (c .before .before .before .before .before .before .before .before .before .pre .0 .rows) (c .before .before .before .before .before .before .loop .place) (search-stops _ _ (unjoinedAt (tableIn (c .before .before .before .before .before .before .before .before .before .args .rows .now)) (c .before .before .before .before .before .before .before .before .before .args .base) (c .before .before .before .before .before .before .before .before .before .args .m)) (c .before .before .before .before .before .before .loop .inv .1) (c .before .before .before .before .before .loop-test .taken) (rw (← c .before .before .face-joined .ensures .0) (c .before .if1 .taken)))
 
 add-place : tie.Need-add-place Inv-loop μ-loop
 add-place c = omega (arith, places-fit (c .before .before .before .before .before .before .before .before .pre .1 .0) (c .before .before .before .before .before .before .before .before .pre .0 .rows .few))

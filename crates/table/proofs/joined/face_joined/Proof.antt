@@ -1,6 +1,8 @@
+use Prim.Native.Nat.{_/_}
+use mathlib.Core.Path.{_∙_}
 use Rattle.table.specs.Holders.{joined-before, own-both, joined-found}
 use Rattle.table.specs.Places.{row-below, places-fit}
-use Rattle.table.specs.Faces.{kind-small, kind-four-or-six}
+use Rattle.table.specs.Faces.{kind-small, four-or-six}
 use borrow.Author.Tests.{not-true}
 use native.Mathlib.Omega.{arith}
 use borrow.Author.Needs.{needs}
@@ -17,7 +19,7 @@ face-at-requires : tie.Need-face-at-requires
 face-at-requires c κs = search needs
 
 row-of-requires : tie.Need-row-of-requires
-row-of-requires c κs = kind-four-or-six (c .before .before .before .before .before .pre .1 .0)
+row-of-requires c κs = tt
 
 add-flood : tie.Need-add-flood
 add-flood c = omega (arith, c .before .before .before .before .before .before .pre .4, places-fit (c .before .before .before .before .before .before .pre .1 .0) (c .before .before .before .before .before .before .pre .0 .rows .few))
@@ -26,7 +28,7 @@ cast-flood : tie.Need-cast-flood
 cast-flood c = omega (arith, c .before .before .before .before .before .before .pre .4, places-fit (c .before .before .before .before .before .before .pre .1 .0) (c .before .before .before .before .before .before .pre .0 .rows .few))
 
 flood-requires : tie.Need-flood-requires
-flood-requires c κs = (c .before .before .before .before .before .before .before .before .pre .0, rw (c .before .before .row-of .ensures) (row-below (kind-small (c .before .before .before .before .before .before .before .before .pre .1 .0) .0) _ _ (c .before .before .before .before .before .before .before .before .pre .4)), rw (c .before .before .row-of .ensures) (own-both (c .before .before .before .before .before .before .before .before .args .rows .now) (c .before .before .before .before .before .before .before .before .pre .1) (c .before .before .before .before .before .before .before .before .args .place) (c .before .before .before .face-at .ensures)), c .before .before .before .before .before .before .before .before .pre .3 .stamps, c .before .before .before .before .before .before .before .before .pre .3 .places, λ y l. omega (arith, c .before .before .before .before .before .before .before .before .pre .3 .low y l))
+flood-requires c κs = (c .before .before .before .before .before .before .before .before .pre .0, rw (c .before .before .row-of .ensures ∙ four-or-six (c .before .before .before .before .before .before .before .before .pre .1 .0) (λ n. c .before .before .before .before .before .before .before .before .args .place / n)) (row-below (kind-small (c .before .before .before .before .before .before .before .before .pre .1 .0) .0) _ _ (c .before .before .before .before .before .before .before .before .pre .4)), rw (c .before .before .row-of .ensures ∙ four-or-six (c .before .before .before .before .before .before .before .before .pre .1 .0) (λ n. c .before .before .before .before .before .before .before .before .args .place / n)) (own-both (c .before .before .before .before .before .before .before .before .args .rows .now) (c .before .before .before .before .before .before .before .before .pre .1) (c .before .before .before .before .before .before .before .before .args .place) (c .before .before .before .face-at .ensures)), c .before .before .before .before .before .before .before .before .pre .3 .stamps, c .before .before .before .before .before .before .before .before .pre .3 .places, λ y l. omega (arith, c .before .before .before .before .before .before .before .before .pre .3 .low y l))
 
 like-places-requires : tie.Need-like-places-requires
 like-places-requires c κs = search needs

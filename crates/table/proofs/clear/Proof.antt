@@ -7,8 +7,8 @@ use lib.ListN.{length, replicate}
 use native.Mathlib.Nat.{le-antisymm}
 use Prim.Native.Nat.{ℕ, _-_, _≤_}
 use mathlib.Core.Path.{_≡_, refl, ap, _∙_}
-use Rattle.table.proofs.across.clear.Statement.{statement}
-use Rattle.table.proofs.across.clear.Tie as tie
+use Rattle.table.proofs.clear.Statement.{statement}
+use Rattle.table.proofs.clear.Tie as tie
 
 abbrev Inv-loop : tie.InvT-loop
 Inv-loop work₀ n i₀ work i = (i ≤ n) × (length work ≡ length work₀) × (work ≡ written (replicate i 0) work₀)
