@@ -69,7 +69,7 @@ impl Header {
         requires { ⌜ (self .rows ≤ 2048) × (self .proposals ≤ 1024) ⌝ }
         ensures { λ r. ⌜ r ≡ wholeLength track (meant self) ⌝ }
     {
-        32 + 17 * self.rows + 8 * self.proposals
+        self.proposals_at() + 8 * self.proposals
     }
 }
 

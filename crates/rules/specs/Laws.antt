@@ -3,6 +3,7 @@ pub mod Truth
 pub mod Below
 pub mod Count
 pub mod Lists
+pub mod Places
 pub mod Joined
 pub mod Shape
 pub mod First

@@ -9,16 +9,16 @@ use native.Mathlib.Nat.{mod-lt}
 use native.Mathlib.Omega.{arith}
 use lib.Dec.{eqb, lit<}
 use lib.ListN.{length, getD, set, replicate, length-replicate, getD-replicate}
-use borrow.Author.Tests.{eqb-true, eq-eqb, eqb-false, not-true, not-false}
+use borrow.Author.Tests.{eqb-true, eqb-false, not-true, not-false}
 use Rattle.rules.specs.Below.{lowest, any, all, gather, tabulate, count, pick}
 use Rattle.rules.specs.Joined.{connected}
 use Rattle.rules.specs.Shape.{edgeTable, vertices}
 use Rattle.rules.specs.Table.{Table, holds, neighbours, across, holdsFace, faceJoined, facesJoined, edgesJoined, verticesJoined}
 use Rattle.rules.specs.Laws.Below.{any-some, all-same}
-use Rattle.rules.specs.Laws.Truth.{true-or-false, not-both, same-test, same-or-not, and-first, and-second, and-both}
-use Rattle.rules.specs.Laws.Count.{TheOther, the-other, count-same, count-le-same, count-not}
+use Rattle.rules.specs.Laws.Truth.{true-or-false, not-both, same-or-not, and-first, and-second, and-both}
+use Rattle.rules.specs.Laws.Count.{TheOther, the-other, count-same, count-not}
 use Rattle.rules.specs.Laws.Lists.{pick-same}
-use Rattle.rules.specs.Laws.Joined.{Chain, stay, step, chain-ends, chain-join, chain-back, chain-passes, Picked, picked-chain, chain-picked}
+use Rattle.rules.specs.Laws.Joined.{Chain, stay, step, chain-ends, chain-join, Picked}
 use Rattle.rules.specs.Reading.Rows.{Rising, Holds, holds-reads}
 use Rattle.rules.specs.Reading.Neighbours.{Side, side-self, Neighbours, neighbours-read, neighbours-back}
 use Rattle.rules.specs.Reading.Closed.{TrianglesShared, triangles-read, across-other}
@@ -27,7 +27,7 @@ use Rattle.table.specs.Faces.{Kind, faceCorners, cornerOf, faceOf, holds
 use Rattle.table.specs.Places.{faceAt, face-at, like, like-count, broken-row, broken-none}
 use Rattle.table.specs.Rows.{tableIn, RisingRows, each-rising}
 use Rattle.table.specs.Triangles.{Neighboured}
-use Rattle.table.specs.Flood.{stamped, Flooding, Flooded, flood-begins, flood-turn, flood-room, flood-ends}
+use Rattle.queue.specs.Flood.{stamped, Flooding, Flooded, flood-begins, flood-turn, flood-room, flood-ends, joined-by-count}
 
 -- row s holds a and b: an edge, or where a is b a vertex
 unfoldable pub both : Table → ℕ → ℕ → ℕ → Bool
@@ -105,6 +105,9 @@ both-count t four up {base} {m} kind l p lp =
 -- from row x one leaves through a corner whose id is neither a nor b
 unfoldable pub leaves : Table → ℕ → ℕ → ℕ → ℕ → Bool
 leaves t a b x c = not (eqb (t .id x c) a) && not (eqb (t .id x c) b)
+
+pub four-ways : 0 < 4
+four-ways = lit< tt
 
 -- from the start by neighbours that hold a and b
 abbrev pub Reach : Table → ℕ → ℕ → ℕ → ℕ → Type 0
@@ -191,35 +194,17 @@ module _ (t : Table) (four : t .corners ≡ 4) (up : (r : ℕ) → r < t .rows �
           whole off k lk = ⊎-elim (λ (e : k ≡ c). subst (λ (j : ℕ). Holds t y (t .id x j)) (sym e) (shared off)) (λ other. on k lk other) (same-or-not k c)
 
   -- As many rows are reached as hold a and b, exactly if these are joined.
-  pub joined-by-count : (a b k start : ℕ) (stamp : List ℕ) (reached : ℕ) → Picked (t .rows) (both t a b) start
-      → Flooded (t .rows) k start (leaves t a b) (across t) (Reach t a b start) stamp reached → eqb reached (count (t .rows) (both t a b)) ≡ bothJoined t a b
+  pub rows-joined : (a b k start : ℕ) (stamp : List ℕ) (reached : ℕ) → Picked (t .rows) (both t a b) start
+      → Flooded four-ways (t .rows) k start (leaves t a b) (across t) (Reach t a b start) stamp reached → eqb reached (count (t .rows) (both t a b)) ≡ bothJoined t a b
   unfolding bothJoined
-  joined-by-count a b k start stamp reached begin f =
-      same-test (eqb reached (count (t .rows) (both t a b))) (bothJoined t a b)
-      (λ e. joined (count-le-same (t .rows) (stamped k stamp) (both t a b) within (sym (f .counted) ∙ eqb-true reached (count (t .rows) (both t a b)) e)))
-      (λ j. eq-eqb reached (count (t .rows) (both t a b)) (f .counted ∙ count-same (t .rows) (stamped k stamp) (both t a b)
-      (λ y l. same-test (stamped k stamp y) (both t a b y) (within y l) (λ h. passed j y (l, h)))))
-    where
-      within : (y : ℕ) → y < t .rows → stamped k stamp y ≡ true → both t a b y ≡ true
-      within y l s = chain-ends (f .good y l s) .1
-
-      bothWays : (x y : ℕ) → Picked (t .rows) (both t a b) x → Picked (t .rows) (both t a b) y → neighbours t x y ≡ true → neighbours t y x ≡ true
-      bothWays x y (lx, _) (ly, _) n = neighbours-read t y x .1 (neighbours-back t x y (up x lx) (up y ly) (neighbours-read t x y .0 n))
-
-      joined : ((y : ℕ) → y < t .rows → both t a b y ≡ true → stamped k stamp y ≡ true) → bothJoined t a b ≡ true
-      joined each =
-          chain-picked (neighbours t) (t .rows) (both t a b) (λ x y (lx, hx) (ly, hy). chain-join (chain-back bothWays (f .good x lx (each x lx hx))) (f .good y ly (each y ly hy)))
-
-      passed : bothJoined t a b ≡ true → (y : ℕ) → Picked (t .rows) (both t a b) y → stamped k stamp y ≡ true
-      passed j y held =
-          chain-passes (λ z. stamped k stamp z ≡ true)
-          (λ x z px pz n s. let (c, lc, w, e) = step-is-move a b x z px pz n in subst (λ (u : ℕ). stamped k stamp u ≡ true) e (f .closed x c (px .0) lc s w))
-          (picked-chain (neighbours t) (t .rows) (both t a b) bothWays j start y begin held) (f .begun)
+  rows-joined a b k start =
+      joined-by-count four-ways (t .rows) k start (leaves t a b) (across t) (both t a b) (neighbours t)
+      (λ x y (lx, _) (ly, _) n. neighbours-read t y x .1 (neighbours-back t x y (up x lx) (up y ly) (neighbours-read t x y .0 n))) (step-is-move a b)
 
 -- ---- the flood over a row section
 
 abbrev pub FloodingRows : List ℕ → ℕ → ℕ → ℕ → ℕ → List ℕ → List ℕ → ℕ → ℕ → Type 0
-FloodingRows bytes a b start k = Flooding (length bytes / 16) k start (leaves (tableIn bytes) a b) (across (tableIn bytes)) (Reach (tableIn bytes) a b start)
+FloodingRows bytes a b start k = Flooding four-ways (length bytes / 16) k start (leaves (tableIn bytes) a b) (across (tableIn bytes)) (Reach (tableIn bytes) a b start)
 
 shared-triangles : {bytes work : List ℕ} → Neighboured bytes work → (r : ℕ) → r < length bytes / 16 → TrianglesShared (tableIn bytes) r
 shared-triangles {bytes} nb r l = triangles-read (tableIn bytes) r .0 (nb .shared r l)
@@ -227,7 +212,7 @@ shared-triangles {bytes} nb r l = triangles-read (tableIn bytes) r .0 (nb .share
 module _ {bytes work : List ℕ} (nb : Neighboured bytes work) (a b start k : ℕ) where
   pub rows-begin : (stamp queue : List ℕ) → start < length bytes / 16 → both (tableIn bytes) a b start ≡ true → length stamp ≡ 2048 → length queue ≡ 2048
       → ((y : ℕ) → y < length bytes / 16 → getD stamp y 0 < k) → FloodingRows bytes a b start k (set stamp start k) (set queue 0 start) 0 1
-  rows-begin stamp queue l held = flood-begins (length bytes / 16) k start (leaves (tableIn bytes) a b) (across (tableIn bytes)) (Reach (tableIn bytes) a b start) stamp queue l (nb .rows .few) (stay (l, held) refl)
+  rows-begin stamp queue l held = flood-begins four-ways (length bytes / 16) k start (leaves (tableIn bytes) a b) (across (tableIn bytes)) (Reach (tableIn bytes) a b start) stamp queue l (nb .rows .few) (stay (l, held) refl)
 
   module _ {stamp queue : List ℕ} {i tail : ℕ} (f : FloodingRows bytes a b start k stamp queue i tail) where
     pub few-reached : tail ≤ 2048
@@ -235,7 +220,7 @@ module _ {bytes work : List ℕ} (nb : Neighboured bytes work) (a b start k : �
 
     pub rows-end : start < length bytes / 16 → both (tableIn bytes) a b start ≡ true → 4 * tail ≤ i → (eqb tail (count (length bytes / 16) (both (tableIn bytes) a b)) ≡ bothJoined (tableIn bytes) a b)
         × (length stamp ≡ 2048) × (length queue ≡ 2048) × ((y : ℕ) → y < length bytes / 16 → getD stamp y 0 ≤ k)
-    rows-end ls held l = (joined-by-count (tableIn bytes) refl (each-rising (nb .rows)) (shared-triangles nb) a b k start stamp tail (ls, held) (flood-ends (length bytes / 16) k start (leaves (tableIn bytes) a b) (across (tableIn bytes)) (Reach (tableIn bytes) a b start) f l), f .stamps, f .places, f .low)
+    rows-end ls held l = (rows-joined (tableIn bytes) refl (each-rising (nb .rows)) (shared-triangles nb) a b k start stamp tail (ls, held) (flood-ends four-ways (length bytes / 16) k start (leaves (tableIn bytes) a b) (across (tableIn bytes)) (Reach (tableIn bytes) a b start) f l), f .stamps, f .places, f .low)
 
     module _ (l : i < 4 * tail) {x : ℕ} (ex : x ≡ getD queue (i / 4) 0) where
       pub reached-below : x < length bytes / 16
@@ -256,7 +241,7 @@ module _ {bytes work : List ℕ} (nb : Neighboured bytes work) (a b start k : �
               omega (
                 arith,
                 nb .rows .few,
-                flood-room (length bytes / 16) k start (leaves (tableIn bytes) a b) (across (tableIn bytes)) (Reach (tableIn bytes) a b start) f y next-below
+                flood-room four-ways (length bytes / 16) k start (leaves (tableIn bytes) a b) (across (tableIn bytes)) (Reach (tableIn bytes) a b start) f y next-below
                     (not-true (stamped k stamp y) (and-second way (not (stamped k stamp y)) on)),
               )
 
@@ -265,7 +250,7 @@ module _ {bytes work : List ℕ} (nb : Neighboured bytes work) (a b start k : �
               → FloodingRows bytes a b start k stamp′ queue′ (i + 1) tail′
           unfolding stamped
           rows-turn =
-              flood-turn (length bytes / 16) k start (leaves (tableIn bytes) a b) (across (tableIn bytes)) (Reach (tableIn bytes) a b start) f l ex is-across (nb .rows .few) next-below
+              flood-turn four-ways (length bytes / 16) k start (leaves (tableIn bytes) a b) (across (tableIn bytes)) (Reach (tableIn bytes) a b start) f l ex is-across (nb .rows .few) next-below
               (λ w. rw is-across (move-good (tableIn bytes) refl (each-rising (nb .rows)) (shared-triangles nb) a b start x (i % 4) reached-below (omega arith) (rw ex (f .inside (i / 4) (omega arith) .1)) w))
               (ap (λ (v : Bool). v && not (eqb (getD stamp y 0) k)) ew)
 

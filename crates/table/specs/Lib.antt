@@ -7,6 +7,5 @@ pub mod Chains
 pub mod Places
 pub mod Walk
 pub mod Triangles
-pub mod Flood
 pub mod Holders
 pub mod Closed

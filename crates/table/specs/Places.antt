@@ -4,7 +4,7 @@ use mathlib.Core.Bool.{Bool, true, not}
 use mathlib.Core.List.{List}
 use mathlib.Core.Option.{some, none}
 use Prim.Native.Nat.{ℕ, _+_, _*_, _/_, _%_, _≤_, _<_}
-use native.Mathlib.Nat.{mod-lt, mod-eq-of-lt, div-eq-of-lt, div-add-mod, mul-add-div, mul-add-mod-self-left, div-lt-iff-lt-mul, mul-comm, add-zero, lt-trans, mul-le-mul, mul-le-mul-left, mul-suc}
+use native.Mathlib.Nat.{mod-lt, div-add-mod, lt-trans, mul-le-mul}
 use native.Mathlib.Omega.{arith}
 use borrow.Author.Tests.{not-true, not-false}
 use Rattle.rules.specs.Below.{lowest, any, all, bit, count}
@@ -12,6 +12,7 @@ use Rattle.rules.specs.Table.{Table}
 use Rattle.rules.specs.Laws.Truth.{same-test}
 use Rattle.rules.specs.Laws.Below.{lowest-is, is-lowest, lowest-none, none-lowest, any-here, any-some, each-all, fails-all}
 use Rattle.rules.specs.Laws.Count.{sum-same, count-blocks, any-count}
+use Rattle.rules.specs.Laws.Places.{row-of, within-row, row-below, place-below}
 use Rattle.rules.specs.Reading.Rows.{Rising}
 use Rattle.table.specs.declared.faces.Face.{Face}
 use Rattle.table.specs.Faces.{Kind, faceOf, sameIds, same-ids, ids-same, holdsIds, keyOf, kind-small, own-face, has-face, one-face}
@@ -43,42 +44,29 @@ places-fit kind l = mul-le-mul (kind-small kind .1) l
 -- ---- rows and places
 
 module _ {m : ℕ} (pos : 0 < m) where
-  pub row-of : (s e : ℕ) → e < m → (m * s + e) / m ≡ s
-  row-of s e l = mul-add-div pos s e ∙ rw (div-eq-of-lt l) (add-zero s)
-
-  pub face-of : (s e : ℕ) → e < m → (m * s + e) % m ≡ e
-  face-of s e l = mul-add-mod-self-left m s e ∙ mod-eq-of-lt l
-
-  pub row-below : (n p : ℕ) → p < m * n → p / m < n
-  row-below n p l = div-lt-iff-lt-mul pos .1 (rw (mul-comm n m) l)
-
-  -- the places of a row are before those of the rows after it
-  pub place-below : (n r e : ℕ) → r < n → e < m → m * r + e < m * n
-  place-below n r e l k = omega (arith, mul-le-mul-left m l, mul-suc m r)
-
   -- The lowest row with a broken face is that of the lowest broken face.
   module _ (n : ℕ) (fine good : ℕ → Bool) (rule : (r : ℕ) → r < n → good r ≡ all m (λ e. fine (m * r + e))) where
     pub broken-row : (p : ℕ) → lowest (m * n) (λ q. not (fine q)) ≡ some p → lowest n (λ r. not (good r)) ≡ some (p / m)
     broken-row p e =
         let low = lowest-is (m * n) (λ q. not (fine q)) p e in
-        let here = row-below n p (low .below) in
+        let here = row-below pos n p (low .below) in
         is-lowest n (λ r. not (good r)) (p / m) (record {
           below = here;
           passes = ap not (rule (p / m) here ∙ fails-all m (λ e. fine (m * (p / m) + e)) (p % m) (mod-lt p pos) (rw (div-add-mod p m) (not-true (fine p) (low .passes))));
           first = λ r l. ap not (rule r (lt-trans l here) ∙ each-all m (λ e. fine (m * r + e)) (λ e k.
-              not-false (fine (m * r + e)) (low .first (m * r + e) (omega (arith, place-below (p / m) r e l k, div-add-mod p m)))));
+              not-false (fine (m * r + e)) (low .first (m * r + e) (omega (arith, place-below pos (p / m) r e l k, div-add-mod p m)))));
         })
 
     pub broken-none : lowest (m * n) (λ q. not (fine q)) ≡ none → lowest n (λ r. not (good r)) ≡ none
     broken-none e =
         none-lowest n (λ r. not (good r)) (λ r l. ap not (rule r l ∙ each-all m (λ e. fine (m * r + e)) (λ d k.
-        not-false (fine (m * r + d)) (lowest-none (m * n) (λ q. not (fine q)) e (m * r + d) (place-below n r d l k)))))
+        not-false (fine (m * r + d)) (lowest-none (m * n) (λ q. not (fine q)) e (m * r + d) (place-below pos n r d l k)))))
 
 -- ---- how many rows hold a face
 
 module _ (t : Table) (four : t .corners ≡ 4) (up : (r : ℕ) → r < t .rows → Rising t r) {base m : ℕ} (kind : Kind base m) where
   pub face-at : (s e : ℕ) → e < m → faceAt t base m (m * s + e) ≡ faceOf t s (base + e)
-  face-at s e l = rw (row-of (kind-small kind .0) s e l, face-of (kind-small kind .0) s e l)
+  face-at s e l = rw (row-of (kind-small kind .0) s e l, within-row (kind-small kind .0) s e l)
 
   module _ (p : ℕ) (l : p < m * t .rows) where
     here : p / m < t .rows

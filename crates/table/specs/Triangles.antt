@@ -28,7 +28,8 @@ use Rattle.table.specs.Faces.{triangles, faceCorners, cornerOf, faceOf, 
 use Rattle.table.specs.Rows.{tableIn, RisingRows}
 use Rattle.table.specs.Chains.{highest, highest-is}
 use Rattle.table.specs.Walk.{another}
-use Rattle.table.specs.Places.{faceAt, like, like-self, broken-row, broken-none, row-below, place-below, face-at, like-holds, holds-like, one-like, like-count}
+use Rattle.rules.specs.Laws.Places.{row-below, place-below}
+use Rattle.table.specs.Places.{faceAt, like, like-self, broken-row, broken-none, face-at, like-holds, holds-like, one-like, like-count}
 
 -- what code 7 looks for
 abbrev pub unshared : Table → ℕ → Bool

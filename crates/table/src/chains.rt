@@ -4,6 +4,7 @@ use crate::faces::face_at;
 use crate::faces::key_of;
 use crate::faces::pick;
 use crate::faces::same_ids;
+use queue::wide;
 ghost use mathlib.Core.Path.{_≡_};
 ghost use mathlib.Core.Bool.{not};
 ghost use Prim.Native.Nat.{ℕ, _*_, _/_, _≤_, _<_};
@@ -39,13 +40,6 @@ pub(crate) fn thread(
         place -= 1;
         link(key_of(face_at(rows, base, m, place)), place, head, next);
     }
-}
-
-// A number by value: one that is cast where it is read would ask that it fits.
-pub(crate) fn wide(x: u16) -> usize
-    ensures { λ r. ⌜ r ≡ x ⌝ }
-{
-    x as usize
 }
 
 // The first place of a key.

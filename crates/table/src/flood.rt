@@ -1,12 +1,13 @@
 // The rows that hold an edge or a vertex, reached from one of them through the neighbour list.
 use crate::across_at;
-use crate::chains::wide;
 use crate::id_at;
+use queue::visit;
+use queue::wide;
 ghost use mathlib.Core.Path.{_≡_};
-ghost use mathlib.Core.Bool.{true, cond};
-ghost use Prim.Native.Nat.{ℕ, _+_, _/_, _≤_, _<_};
+ghost use mathlib.Core.Bool.{true};
+ghost use Prim.Native.Nat.{ℕ, _/_, _≤_, _<_};
 ghost use lib.Dec.{eqb};
-ghost use lib.ListN.{length, getD, set};
+ghost use lib.ListN.{length, getD};
 ghost use Rattle.rules.specs.Below.{count};
 ghost use Rattle.table.specs.Rows.{tableIn};
 ghost use Rattle.table.specs.Triangles.{Neighboured};
@@ -19,28 +20,6 @@ fn leaves(rows: &[u8], a: usize, b: usize, x: usize, corner: usize) -> bool
 {
     let id = id_at(rows, x, corner);
     (id != a) & (id != b)
-}
-
-// Stamps row y and puts it into the queue, if it is fresh.
-fn visit(
-    fresh: bool,
-    y: usize,
-    k: u16,
-    stamp: &mut [u16; 2048],
-    queue: &mut [u16; 2048],
-    tail: usize,
-) -> usize
-    requires { ⌜ (y < 2048) × (fresh ≡ true → tail < 2048) ⌝ }
-    ensures { λ r. ⌜ (now (stamp .exit) ≡ cond fresh (set (now (stamp .entry)) y k) (now (stamp .entry)))
-        × (now (queue .exit) ≡ cond fresh (set (now (queue .entry)) tail y) (now (queue .entry)))
-        × (r ≡ cond fresh (tail + 1) tail) ⌝ }
-{
-    if fresh {
-        stamp[y] = k;
-        queue[tail] = y as u16;
-        return tail + 1;
-    }
-    tail
 }
 
 // How many rows are reached: as many as hold a and b, exactly if these are joined. The stamp k must be fresh.

@@ -2,9 +2,9 @@
 use mathlib.Core.Path.{_≡_, refl, sym, ap, _∙_, subst, fun-ext}
 use mathlib.Core.Logic.{⊎-elim}
 use mathlib.Core.Bool.{Bool, true, false}
-use mathlib.Core.List.{List, [], _∷_, _++_, List·Memᴰ, List·Memᴰ·head, List·Memᴰ·tail, List·Memᴰ·not-nil, List·Memᴰ·append-cases, List·Memᴰ·eq-of-singleton, Memᴰ·append-left, Memᴰ·append-right, append-nil}
-use Prim.Native.Nat.{ℕ, zero, suc, _+_, _<_}
-use native.Mathlib.Nat.{le-of-suc-le-suc, not-suc-le-zero, eq-or-lt-of-le, le-refl, le-step, lt-irrefl}
+use mathlib.Core.List.{List, [], _∷_, _++_, List·Memᴰ, List·Memᴰ·head, List·Memᴰ·tail, List·Memᴰ·not-nil, List·Memᴰ·append-cases, List·Memᴰ·eq-of-singleton, Memᴰ·append-left, Memᴰ·append-right, append-nil, append-assoc}
+use Prim.Native.Nat.{ℕ, zero, suc, _+_, _*_, _<_}
+use native.Mathlib.Nat.{le-of-suc-le-suc, not-suc-le-zero, eq-or-lt-of-le, le-refl, le-step, lt-irrefl, add-zero, add-suc, mul-zero, mul-suc}
 use native.Mathlib.Numerals.{add-one}
 use lib.ListN.{length, getD, length-append, List·getD-append}
 use lib.Seq.{getD-at}
@@ -26,6 +26,17 @@ module _ {ℓ} {A : Type ℓ} where
   unfolding gather
   gather-same zero f g e = refl
   gather-same (suc n) f g e = rw (gather-same n f g (λ k l. e k (le-step l)), e n (le-refl (suc n)))
+
+  gather-append : (a b : ℕ) (f : ℕ → List A) → gather (a + b) f ≡ gather a f ++ gather b (λ k. f (a + k))
+  unfolding gather
+  gather-append a zero f = rw (add-zero a) (sym (append-nil (gather a f)))
+  gather-append a (suc b) f = rw (add-suc a b, gather-append a b f) (append-assoc (gather a f) (gather b (λ k. f (a + k))) (f (a + b)))
+
+  -- n blocks of m
+  pub gather-blocks : (m n : ℕ) (f : ℕ → List A) → gather (m * n) f ≡ gather n (λ s. gather m (λ e. f (m * s + e)))
+  unfolding gather
+  gather-blocks m zero f = rw (mul-zero m)
+  gather-blocks m (suc n) f = rw (mul-suc m n, gather-append (m * n) m f, gather-blocks m n f)
 
   pub gather-length : (n : ℕ) (f : ℕ → List A) → length (gather n f) ≡ sum n (λ k. length (f k))
   unfolding gather sum

@@ -1,6 +1,6 @@
 use Prim.Native.Nat.{_/_, _%_}
 use mathlib.Core.Path.{_∙_}
-use Rattle.table.specs.Places.{row-below}
+use Rattle.rules.specs.Laws.Places.{row-below}
 use Rattle.table.specs.Faces.{kind-small, four-or-six}
 use native.Mathlib.Omega.{arith}
 use native.Mathlib.Nat.{mod-lt}

@@ -1,7 +1,8 @@
 use Prim.Native.Nat.{_/_}
 use mathlib.Core.Path.{_∙_}
 use Rattle.table.specs.Holders.{joined-before, own-both, joined-found}
-use Rattle.table.specs.Places.{row-below, places-fit}
+use Rattle.rules.specs.Laws.Places.{row-below}
+use Rattle.table.specs.Places.{places-fit}
 use Rattle.table.specs.Faces.{kind-small, four-or-six}
 use borrow.Author.Tests.{not-true}
 use native.Mathlib.Omega.{arith}

@@ -1,8 +1,8 @@
 use native.Mathlib.Omega.{arith}
 use mathlib.Core.Path.{refl}
 use borrow.Author.Needs.{needs}
-use Rattle.table.proofs.flood.visit.Statement.{statement}
-use Rattle.table.proofs.flood.visit.Tie as tie
+use Rattle.queue.proofs.visit.Statement.{statement}
+use Rattle.queue.proofs.visit.Tie as tie
 
 mul-stamp : tie.Need-mul-stamp
 mul-stamp c = search needs

@@ -1,19 +1,24 @@
--- A flood over the numbers below n: from x one goes to `target x c` for each corner c that `want x c` lets pass.
--- What is reached from the start is stamped with k and stands in a queue; turn i takes corner i % 4 of the number that stands at i / 4.
+-- A flood over the numbers below n: from x one goes to `target x c` for each way c that `want x c` lets pass, c below `ways`.
+-- What is reached from the start is stamped with k and stands in a queue; turn i takes way i % ways of the number that stands at i / ways.
 use mathlib.Core.Path.{_≡_, sym, ap, _∙_, subst}
 use mathlib.Core.Logic.{_⊎_, inl, inr, ⊎-elim, _≢_}
 use mathlib.Core.Bool.{Bool, true, false, not, _&&_, cond}
 use mathlib.Core.List.{List}
 use Prim.Native.Nat.{ℕ, _+_, _*_, _/_, _%_, _≤_, _<_}
+use native.Mathlib.Nat.{mul-suc}
+use native.Mathlib.Numerals.{add-one}
 use native.Mathlib.Omega.{arith}
 use lib.Dec.{eqb}
 use lib.ListN.{length, getD, set, length-set}
 use lib.Seq.{getD-set-same, getD-set-other}
-use borrow.Author.Tests.{eq-eqb, ne-eqb, not-true}
+use borrow.Author.Tests.{eqb-true, eq-eqb, ne-eqb, not-true}
 use borrow.Author.Count.{below-more}
-use Rattle.rules.specs.Below.{count}
+use Rattle.rules.specs.Below.{count, pick}
+use Rattle.rules.specs.Joined.{connected}
 use Rattle.rules.specs.Laws.Truth.{true-or-false, not-both, same-test, same-or-not, and-first, and-second, and-both}
-use Rattle.rules.specs.Laws.Count.{without, count-without, without-is, is-without, count-same, count-not, none-count}
+use Rattle.rules.specs.Laws.Count.{without, count-without, without-is, is-without, count-same, count-le-same, count-not, none-count}
+use Rattle.rules.specs.Laws.Places.{row-of, within-row, row-below, place-below}
+use Rattle.rules.specs.Laws.Joined.{Chain, chain-ends, chain-join, chain-back, chain-passes, Picked, picked-chain, chain-picked}
 
 unfoldable pub stamped : ℕ → List ℕ → ℕ → Bool
 stamped k stamp y = eqb (getD stamp y 0) k
@@ -48,19 +53,19 @@ module _ (k : ℕ) (stamp : List ℕ) (y : ℕ) (room : y < length stamp) where
 
 -- ---- the flood
 
-module _ (n k start : ℕ) (want : ℕ → ℕ → Bool) (target : ℕ → ℕ → ℕ) (Good : ℕ → Type 0) where
+module _ {ways : ℕ} (pos : 0 < ways) (n k start : ℕ) (want : ℕ → ℕ → Bool) (target : ℕ → ℕ → ℕ) (Good : ℕ → Type 0) where
   -- before turn i
   pub record Flooding (stamp queue : List ℕ) (i tail : ℕ) : Type 0 where
     pub stamps : length stamp ≡ 2048
     pub places : length queue ≡ 2048
-    pub within : i ≤ 4 * tail
+    pub within : i ≤ ways * tail
     pub begun : stamped k stamp start ≡ true
     -- as many are stamped as stand in the queue
     pub counted : tail ≡ count n (stamped k stamp)
     pub inside : (q : ℕ) → q < tail → (getD queue q 0 < n) × Good (getD queue q 0)
     pub place : (y : ℕ) → y < n → stamped k stamp y ≡ true → (q : ℕ) × (q < tail) × (getD queue q 0 ≡ y)
     -- where the turns so far could go is stamped
-    pub done : (j : ℕ) → j < i → want (getD queue (j / 4) 0) (j % 4) ≡ true → stamped k stamp (target (getD queue (j / 4) 0) (j % 4)) ≡ true
+    pub done : (j : ℕ) → j < i → want (getD queue (j / ways) 0) (j % ways) ≡ true → stamped k stamp (target (getD queue (j / ways) 0) (j % ways)) ≡ true
     pub low : (y : ℕ) → y < n → getD stamp y 0 ≤ k
 
   -- once no turn is left
@@ -68,10 +73,10 @@ module _ (n k start : ℕ) (want : ℕ → ℕ → Bool) (target : ℕ → ℕ �
     pub begun : stamped k stamp start ≡ true
     pub counted : reached ≡ count n (stamped k stamp)
     pub good : (y : ℕ) → y < n → stamped k stamp y ≡ true → Good y
-    pub closed : (y c : ℕ) → y < n → c < 4 → stamped k stamp y ≡ true → want y c ≡ true → stamped k stamp (target y c) ≡ true
+    pub closed : (y c : ℕ) → y < n → c < ways → stamped k stamp y ≡ true → want y c ≡ true → stamped k stamp (target y c) ≡ true
     pub low : (y : ℕ) → y < n → getD stamp y 0 ≤ k
 
-  pub flood-ends : {stamp queue : List ℕ} {i tail : ℕ} → Flooding stamp queue i tail → 4 * tail ≤ i → Flooded stamp tail
+  pub flood-ends : {stamp queue : List ℕ} {i tail : ℕ} → Flooding stamp queue i tail → ways * tail ≤ i → Flooded stamp tail
   flood-ends {stamp} {queue} {i} {tail} f l = record {
     begun = f .begun;
     counted = f .counted;
@@ -80,11 +85,9 @@ module _ (n k start : ℕ) (want : ℕ → ℕ → Bool) (target : ℕ → ℕ �
     low = f .low;
   }
     where
-      at : (q : ℕ) → q < tail → (y c : ℕ) → c < 4 → getD queue q 0 ≡ y → want y c ≡ true → stamped k stamp (target y c) ≡ true
+      at : (q : ℕ) → q < tail → (y c : ℕ) → c < ways → getD queue q 0 ≡ y → want y c ≡ true → stamped k stamp (target y c) ≡ true
       at q lq y c lc e =
-          let row : (4 * q + c) / 4 ≡ q = omega arith in
-          let corner : (4 * q + c) % 4 ≡ c = omega arith in
-          rw (row, corner, e) at (f .done (4 * q + c) (omega arith))
+          rw (row-of pos q c lc, within-row pos q c lc, e) at (f .done (ways * q + c) (omega (arith, f .within, l, place-below pos tail q c lq lc)))
 
   pub flood-begins : (stamp queue : List ℕ) → start < n → n ≤ 2048 → Good start → length stamp ≡ 2048 → length queue ≡ 2048
       → ((y : ℕ) → y < n → getD stamp y 0 < k) → Flooding (set stamp start k) (set queue 0 start) 0 1
@@ -115,9 +118,9 @@ module _ (n k start : ℕ) (want : ℕ → ℕ → Bool) (target : ℕ → ℕ �
   flood-room {stamp} f y l off =
       omega (arith, f .counted, count-not n (stamped k stamp), count-without n (λ z. not (stamped k stamp z)) y l (ap not off))
 
-  module _ {stamp queue : List ℕ} {i tail : ℕ} (f : Flooding stamp queue i tail) (l : i < 4 * tail) where
+  module _ {stamp queue : List ℕ} {i tail : ℕ} (f : Flooding stamp queue i tail) (l : i < ways * tail) where
     -- a turn that finds nothing new
-    flood-known : {x y : ℕ} → x ≡ getD queue (i / 4) 0 → y ≡ target x (i % 4) → (want x (i % 4) ≡ true → stamped k stamp y ≡ true) → Flooding stamp queue (i + 1) tail
+    flood-known : {x y : ℕ} → x ≡ getD queue (i / ways) 0 → y ≡ target x (i % ways) → (want x (i % ways) ≡ true → stamped k stamp y ≡ true) → Flooding stamp queue (i + 1) tail
     flood-known ex ey known = record {
       stamps = f .stamps;
       places = f .places;
@@ -126,30 +129,33 @@ module _ (n k start : ℕ) (want : ℕ → ℕ → Bool) (target : ℕ → ℕ �
       counted = f .counted;
       inside = f .inside;
       place = f .place;
-      done = below-more (λ j. want (getD queue (j / 4) 0) (j % 4) ≡ true → stamped k stamp (target (getD queue (j / 4) 0) (j % 4)) ≡ true) i (f .done)
+      done = below-more (λ j. want (getD queue (j / ways) 0) (j % ways) ≡ true → stamped k stamp (target (getD queue (j / ways) 0) (j % ways)) ≡ true) i (f .done)
           (rw (← ex, ← ey) known);
       low = f .low;
     }
 
     -- a turn that finds y
-    flood-fresh : {x y : ℕ} → x ≡ getD queue (i / 4) 0 → y ≡ target x (i % 4) → n ≤ 2048 → y < n → stamped k stamp y ≡ false → Good y
+    flood-fresh : {x y : ℕ} → x ≡ getD queue (i / ways) 0 → y ≡ target x (i % ways) → n ≤ 2048 → y < n → stamped k stamp y ≡ false → Good y
         → Flooding (set stamp y k) (set queue tail y) (i + 1) (tail + 1)
     flood-fresh {x} {y} ex ey few ly off good = record {
       stamps = length-set stamp y k ∙ f .stamps;
       places = length-set queue tail y ∙ f .places;
-      within = omega arith;
+      within = omega (arith, more);
       begun = stamp-keeps k stamp y room start (f .begun);
       counted = sym (stamp-counted k stamp y room n ly off ∙ ap (λ (m : ℕ). m + 1) (sym (f .counted)));
       inside = below-more (λ q. (getD (set queue tail y) q 0 < n) × Good (getD (set queue tail y) q 0)) tail
           (λ q m. rw (before q m) (f .inside q m)) (rw here (ly, good));
       place = λ z m t.
           ⊎-elim (λ (e : z ≡ y). (tail, omega arith, here ∙ sym e)) (λ t. let (q, lq, e) = f .place z m t in (q, omega arith, before q lq ∙ e)) (stamp-either k stamp y room z t);
-      done = below-more (λ j. want (getD (set queue tail y) (j / 4) 0) (j % 4) ≡ true → stamped k (set stamp y k) (target (getD (set queue tail y) (j / 4) 0) (j % 4)) ≡ true) i
-          (λ j m. rw (before (j / 4) (omega arith)) (λ w. stamp-keeps k stamp y room (target (getD queue (j / 4) 0) (j % 4)) (f .done j m w)))
-          (rw (before (i / 4) (omega arith), ← ex, ← ey) (λ _. stamp-same k stamp y room));
+      done = below-more (λ j. want (getD (set queue tail y) (j / ways) 0) (j % ways) ≡ true → stamped k (set stamp y k) (target (getD (set queue tail y) (j / ways) 0) (j % ways)) ≡ true) i
+          (λ j m. rw (before (j / ways) (row-below pos tail j (omega (arith, l)))) (λ w. stamp-keeps k stamp y room (target (getD queue (j / ways) 0) (j % ways)) (f .done j m w)))
+          (rw (before (i / ways) (row-below pos tail i l), ← ex, ← ey) (λ _. stamp-same k stamp y room));
       low = λ z m. stamp-low k stamp y room z (f .low z m);
     }
       where
+        more : ways * (tail + 1) ≡ ways * tail + ways
+        more = rw add-one (mul-suc ways tail)
+
         room : y < length stamp
         room = omega (arith, f .stamps)
 
@@ -159,17 +165,45 @@ module _ (n k start : ℕ) (want : ℕ → ℕ → Bool) (target : ℕ → ℕ �
         before : (q : ℕ) → q < tail → getD (set queue tail y) q 0 ≡ getD queue q 0
         before q m = getD-set-other queue tail q y 0 (λ (e : q ≡ tail). omega arith)
 
-    pub flood-turn : {x y : ℕ} → x ≡ getD queue (i / 4) 0 → y ≡ target x (i % 4) → n ≤ 2048 → y < n → (want x (i % 4) ≡ true → Good y)
-        → {fresh : Bool} {stamp′ queue′ : List ℕ} {tail′ : ℕ} → fresh ≡ (want x (i % 4) && not (stamped k stamp y))
+    pub flood-turn : {x y : ℕ} → x ≡ getD queue (i / ways) 0 → y ≡ target x (i % ways) → n ≤ 2048 → y < n → (want x (i % ways) ≡ true → Good y)
+        → {fresh : Bool} {stamp′ queue′ : List ℕ} {tail′ : ℕ} → fresh ≡ (want x (i % ways) && not (stamped k stamp y))
         → stamp′ ≡ cond fresh (set stamp y k) stamp → queue′ ≡ cond fresh (set queue tail y) queue → tail′ ≡ cond fresh (tail + 1) tail → Flooding stamp′ queue′ (i + 1) tail′
     flood-turn {x} {y} ex ey few ly good {fresh} {stamp′} {queue′} {tail′} ef es eq et = ⊎-elim found known (true-or-false fresh)
       where
         found : fresh ≡ true → Flooding stamp′ queue′ (i + 1) tail′
         found t =
-            let both : (want x (i % 4) && not (stamped k stamp y)) ≡ true = sym ef ∙ t in
-            rw (es, eq, et, t) (flood-fresh ex ey few ly (not-true (stamped k stamp y) (and-second (want x (i % 4)) (not (stamped k stamp y)) both))
-            (good (and-first (want x (i % 4)) (not (stamped k stamp y)) both)))
+            let both : (want x (i % ways) && not (stamped k stamp y)) ≡ true = sym ef ∙ t in
+            rw (es, eq, et, t) (flood-fresh ex ey few ly (not-true (stamped k stamp y) (and-second (want x (i % ways)) (not (stamped k stamp y)) both))
+            (good (and-first (want x (i % ways)) (not (stamped k stamp y)) both)))
 
         known : fresh ≡ false → Flooding stamp′ queue′ (i + 1) tail′
         known off =
             rw (es, eq, et, off) (flood-known ex ey (λ w. ⊎-elim (λ t. t) (λ new. absurd (not-both (and-both w (ap not new)) (sym ef ∙ off))) (true-or-false (stamped k stamp y))))
+
+-- ---- what a flood tells of connectedness
+
+-- Each step from a member to a member is a way of the flood.
+module _ {ways : ℕ} (pos : 0 < ways) (n k start : ℕ) (want : ℕ → ℕ → Bool) (target : ℕ → ℕ → ℕ) (member : ℕ → Bool) (next : ℕ → ℕ → Bool)
+    (back : (x y : ℕ) → Picked n member x → Picked n member y → next x y ≡ true → next y x ≡ true)
+    (way : (x y : ℕ) → Picked n member x → Picked n member y → next x y ≡ true → (c : ℕ) × (c < ways) × (want x c ≡ true) × (target x c ≡ y)) where
+  -- As many are reached as are members, exactly if the members are connected.
+  pub joined-by-count : (stamp : List ℕ) (reached : ℕ) → Picked n member start
+      → Flooded pos n k start want target (Chain (Picked n member) (λ x y. next x y ≡ true) start) stamp reached → eqb reached (count n member) ≡ connected next (pick n member)
+  joined-by-count stamp reached begin f =
+      same-test (eqb reached (count n member)) (connected next (pick n member))
+      (λ e. joined (count-le-same n (stamped k stamp) member within (sym (f .counted) ∙ eqb-true reached (count n member) e)))
+      (λ j. eq-eqb reached (count n member) (f .counted ∙ count-same n (stamped k stamp) member
+      (λ y l. same-test (stamped k stamp y) (member y) (within y l) (λ h. passed j y (l, h)))))
+    where
+      within : (y : ℕ) → y < n → stamped k stamp y ≡ true → member y ≡ true
+      within y l s = chain-ends (f .good y l s) .1
+
+      joined : ((y : ℕ) → y < n → member y ≡ true → stamped k stamp y ≡ true) → connected next (pick n member) ≡ true
+      joined each =
+          chain-picked next n member (λ x y (lx, hx) (ly, hy). chain-join (chain-back back (f .good x lx (each x lx hx))) (f .good y ly (each y ly hy)))
+
+      passed : connected next (pick n member) ≡ true → (y : ℕ) → Picked n member y → stamped k stamp y ≡ true
+      passed j y held =
+          chain-passes (λ z. stamped k stamp z ≡ true)
+          (λ x z px pz e s. let (c, lc, w, f′) = way x z px pz e in subst (λ (u : ℕ). stamped k stamp u ≡ true) f′ (f .closed x c (px .0) lc s w))
+          (picked-chain next n member back j start y begin held) (f .begun)
