@@ -55,21 +55,21 @@ const CORNERS: [usize; 42] = [
     3,
 ];
 
-pub(crate) struct Face {
-    pub(crate) a: usize,
-    pub(crate) b: usize,
-    pub(crate) c: usize,
+pub struct Face {
+    pub a: usize,
+    pub b: usize,
+    pub c: usize,
 }
 
 // Corner k of a face.
-fn corner_of(face: usize, k: usize) -> usize
+pub fn corner_of(face: usize, k: usize) -> usize
     requires { ⌜ (face < 14) × (k < 3) ⌝ }
     ensures { λ r. ⌜ r ≡ cornerOf face k ⌝ }
 {
     CORNERS[3 * face + k]
 }
 
-fn face_of(rows: &[u8], row: usize, face: usize) -> Face
+pub fn face_of(rows: &[u8], row: usize, face: usize) -> Face
     requires { ⌜ (row < length (now rows) / 16) × (face < 14) ⌝ }
     ensures { λ r. ⌜ r ≡ faceOf (tableIn (now (rows .entry))) row face ⌝ }
 {
@@ -92,7 +92,7 @@ pub(crate) fn same_ids(f: Face, g: Face) -> bool
     (f.a == g.a) & (f.b == g.b) & (f.c == g.c)
 }
 
-pub(crate) fn pick(b: bool, x: usize, y: usize) -> usize
+pub fn pick(b: bool, x: usize, y: usize) -> usize
     ensures { λ r. ⌜ r ≡ cond b x y ⌝ }
 {
     if b { x } else { y }

@@ -1,7 +1,7 @@
 // The table: rows, neighbours, and the rules of a closed table. Codes 5 to 9.
 mod across;
 mod chains;
-mod faces;
+pub mod faces;
 mod flood;
 mod joined;
 mod rows;
@@ -16,6 +16,7 @@ ghost use Prim.Native.Nat.{_+_, _*_, _/_, _≤_, _<_};
 ghost use lib.ListN.{length, getD, replicate};
 ghost use Rattle.rules.specs.First.{firstMatch};
 ghost use Rattle.rules.specs.Job.{written, tableTests};
+ghost use Rattle.rules.specs.Table.{holds};
 ghost use Rattle.table.specs.Rows.{idIn, tableIn, RisingRows};
 ghost use Rattle.table.specs.Triangles.{Neighboured};
 ghost use Rattle.table.specs.Closed.{verdictOf, joinedTests, sharedTests, frontOf, toClear};
@@ -45,6 +46,17 @@ pub fn id_at(rows: &[u8], row: usize, corner: usize) -> usize
     ensures { λ r. ⌜ r ≡ idIn (now (rows .entry)) row corner ⌝ }
 {
     word_at(rows, 16 * row + 4 * corner) as usize
+}
+
+// An id is one of a row's.
+pub fn holds(rows: &[u8], row: usize, id: usize) -> bool
+    requires { ⌜ row < length (now rows) / 16 ⌝ }
+    ensures { λ r. ⌜ r ≡ holds (tableIn (now (rows .entry))) row id ⌝ }
+{
+    (id_at(rows, row, 0) == id)
+        | (id_at(rows, row, 1) == id)
+        | (id_at(rows, row, 2) == id)
+        | (id_at(rows, row, 3) == id)
 }
 
 // The row across the triangle of a row that leaves out a corner, by the neighbour list. Every neighbour is read here.

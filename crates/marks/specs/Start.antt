@@ -1,0 +1,68 @@
+-- What codes 10 to 12 look for, first match decides.
+use mathlib.Core.Path.{_≡_, sym, ap, _∙_}
+use mathlib.Core.Logic.{⊎-elim}
+use mathlib.Core.Bool.{Bool, not, _&&_, _||_}
+use mathlib.Core.List.{List}
+use Prim.Native.Nat.{ℕ, _/_, _<_}
+use lib.Dec.{eqb}
+use lib.ListN.{length, getD}
+use Rattle.rules.specs.Below.{lowest}
+use Rattle.rules.specs.First.{Verdict, firstMatch}
+use Rattle.rules.specs.Table.{Table, outer}
+use Rattle.rules.specs.Skin.{oneRing, skinVertex, ringless}
+use Rattle.rules.specs.Proposals.{insideIn}
+use Rattle.rules.specs.Job.{markTests}
+use Rattle.rules.specs.Laws.Truth.{true-or-false}
+use Rattle.rules.specs.Laws.First.{match-here, match-later, match-end}
+use Rattle.rules.specs.Reading.Ring.{one-ring-reads, off-skin-ring}
+use Rattle.table.specs.declared.Found.{Found}
+use Rattle.table.specs.declared.Found.the-variants.{At, Nowhere}
+use Rattle.table.specs.Rows.{tableIn, placeOf}
+use Rattle.marks.specs.declared.Unfit.{Unfit}
+use Rattle.marks.specs.declared.Unfit.the-variants.{Nothing, Mark, Outer, Vertex}
+
+-- document 01's code and place
+abbrev pub verdictOf : Unfit → Verdict
+verdictOf Nothing = record { code = 0; place = 0 }
+verdictOf (Mark r) = record { code = 10; place = r }
+verdictOf (Outer r) = record { code = 11; place = r }
+verdictOf (Vertex v) = record { code = 12; place = v }
+
+abbrev pub badMark : List ℕ → ℕ → Bool
+badMark marks r = not (eqb (getD marks r 0) 0 || eqb (getD marks r 0) 1)
+
+abbrev pub outerInside : Table → List ℕ → ℕ → Bool
+outerInside t marks r = outer t r && insideIn marks r
+
+-- a vertex without one ring is on the skin: off it there is nothing that could fail
+pub ringless-is : (t : Table) (inside : ℕ → Bool) (n v : ℕ) → v < n → ringless t inside n v ≡ not (oneRing t inside n v)
+unfolding ringless
+ringless-is t inside n v l =
+    ⊎-elim (λ on. ap (λ (b : Bool). b && not (oneRing t inside n v)) on)
+    (λ off. ap (λ (b : Bool). b && not (oneRing t inside n v)) off ∙ sym (ap not (one-ring-reads t inside n v .1 (off-skin-ring t inside n v l off))))
+    (true-or-false (skinVertex t inside n v))
+
+module _ (bytes marks : List ℕ) (ids : ℕ) (each : length marks ≡ length bytes / 16) (bad : Found) (looked : placeOf bad ≡ lowest (length marks) (badMark marks)) where
+  found-bad : lowest (length bytes / 16) (badMark marks) ≡ placeOf bad
+  found-bad = ap (λ (n : ℕ). lowest n (badMark marks)) (sym each) ∙ sym looked
+
+  pub bad-found : {r : ℕ} → bad ≡ At r → verdictOf (Mark r) ≡ firstMatch 10 (markTests (tableIn bytes) ids marks)
+  unfolding markTests
+  bad-found {r} e = sym (match-here 10 _ _ r (found-bad ∙ ap placeOf e))
+
+  module _ (fine : bad ≡ Nowhere) (out : Found) (sought : placeOf out ≡ lowest (length bytes / 16) (outerInside (tableIn bytes) marks)) where
+    pub outer-found : {r : ℕ} → out ≡ At r → verdictOf (Outer r) ≡ firstMatch 10 (markTests (tableIn bytes) ids marks)
+    unfolding markTests
+    outer-found {r} e = sym (match-later 10 _ _ (found-bad ∙ ap placeOf fine) ∙ match-here 11 _ _ r (sym sought ∙ ap placeOf e))
+
+    module _ (none : out ≡ Nowhere) (vertex : Found) (tried : placeOf vertex ≡ lowest ids (ringless (tableIn bytes) (insideIn marks) ids)) where
+      pub ringless-found : {v : ℕ} → vertex ≡ At v → verdictOf (Vertex v) ≡ firstMatch 10 (markTests (tableIn bytes) ids marks)
+      unfolding markTests
+      ringless-found {v} e =
+          sym (match-later 10 _ _ (found-bad ∙ ap placeOf fine) ∙ match-later 11 _ _ (sym sought ∙ ap placeOf none) ∙ match-here 12 _ _ v (sym tried ∙ ap placeOf e))
+
+      pub all-fit : vertex ≡ Nowhere → verdictOf Nothing ≡ firstMatch 10 (markTests (tableIn bytes) ids marks)
+      unfolding markTests
+      all-fit e =
+          sym (match-later 10 _ _ (found-bad ∙ ap placeOf fine) ∙ match-later 11 _ _ (sym sought ∙ ap placeOf none) ∙ match-later 12 _ _ (sym tried ∙ ap placeOf e)
+          ∙ match-end 13)

@@ -1,0 +1,48 @@
+use Prim.Native.Nat.{_*_}
+use Rattle.skin_list.specs.Listing.{triangle-put}
+use mathlib.Core.Path.{refl, _∙_}
+use native.Mathlib.Omega.{arith}
+use borrow.Author.Needs.{needs}
+use Rattle.skin_list.proofs.put.Statement.{statement}
+use Rattle.skin_list.proofs.put.Tie as tie
+
+triangle-id-requires : tie.Need-triangle-id-requires
+triangle-id-requires c κs = search needs
+
+triangle-id-requires-2 : tie.Need-triangle-id-requires-2
+triangle-id-requires-2 c κs = search needs
+
+triangle-id-requires-3 : tie.Need-triangle-id-requires-3
+triangle-id-requires-3 c κs = search needs
+
+mul-put-ids : tie.Need-mul-put-ids
+mul-put-ids c = omega (arith, c .before .before .before .before .before .before .before .pre .2 (c .before .before .before .before .if1 .taken))
+
+put-ids-requires : tie.Need-put-ids-requires
+put-ids-requires c κs = c .before .before .before .before .before .before .before .pre .2 (c .before .before .before .before .if1 .taken)
+
+add-result : tie.Need-add-result
+add-result c = omega (arith, c .before .before .before .before .before .before .before .before .before .before .pre .2 (c .before .before .before .before .before .before .before .if1 .taken))
+
+same-length : tie.Need-same-length
+same-length c = search needs
+
+returns : tie.Need-returns
+returns c = rw (c .before .before .before .before .before .before .before .if1 .taken) (refl, c .before .before .put-ids .ensures ∙ triangle-put (c .before .before .before .before .before .before .before .before .before .before .args .rows .now) (c .before .before .before .before .before .before .before .before .before .before .args .row) (c .before .before .before .before .before .before .before .before .before .before .args .corner) (c .before .before .before .before .before .before .before .before .before .before .pre .1) (c .before .before .before .before .before .before .before .before .before .before .args .triangles .now) (3 * c .before .before .before .before .before .before .before .before .before .before .args .n) (c .before .before .before .before .before .before .triangle-id .ensures) (c .before .before .before .before .before .triangle-id2 .ensures) (c .before .before .before .before .triangle-id3 .ensures))
+
+returns-2 : tie.Need-returns-2
+returns-2 c = search needs
+
+pub put-spec : {M : Type 1} → statement M
+put-spec =
+    tie.close
+    (tie.spec
+    triangle-id-requires
+    triangle-id-requires-2
+    triangle-id-requires-3
+    mul-put-ids
+    put-ids-requires
+    add-result
+    same-length
+    returns
+    returns-2)
