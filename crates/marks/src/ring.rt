@@ -86,11 +86,12 @@ pub(crate) fn is_ring(
     if !t.even {
         return false;
     }
-    if t.count == 0 {
+    let ends = t.count;
+    if ends == 0 {
         return true;
     }
     let mut stamp = [0u16; 2048];
     let mut queue = [0u16; 2048];
     let reached = reach(ids, degree, last, before, t.end, &mut stamp, &mut queue);
-    reached == t.count
+    reached == ends
 }

@@ -1,0 +1,55 @@
+use mathlib.Core.Path.{_≡_, refl, sym, _∙_}
+use mathlib.Core.Bool.{true}
+use Prim.Native.Nat.{_-_}
+use borrow.Author.Needs.{needs}
+use borrow.Author.Tests.{not-true, not-false}
+use Rattle.rules.specs.Below.{all}
+use Rattle.rules.specs.Cases.{otherSide}
+use Rattle.rules.specs.Proposals.{insideIn}
+use Rattle.rules.specs.Laws.Below.{fails-all}
+use Rattle.table.specs.Rows.{tableIn}
+use Rattle.growth.specs.Free.{vertexFree, all-yet, all-of-them}
+use Rattle.growth.proofs.free.vertices_free.Statement.{statement}
+use Rattle.growth.proofs.free.vertices_free.Tie as tie
+
+abbrev Inv-loop : tie.InvT-loop
+Inv-loop rows marks adding row corner₀ corner = all corner (vertexFree (tableIn rows) (otherSide adding (insideIn marks)) row) ≡ true
+
+abbrev μ-loop : tie.MeasureT-loop
+μ-loop rows marks adding row corner₀ corner = 4 - corner
+
+loop-holds : tie.Need-loop-holds Inv-loop μ-loop
+unfolding all
+loop-holds c = refl
+
+vertex-free-requires : tie.Need-vertex-free-requires Inv-loop μ-loop
+vertex-free-requires c κs = search needs
+
+returns : tie.Need-returns Inv-loop μ-loop
+returns c = sym (fails-all 4 _ (c .before .before .before .loop .corner) (c .before .before .loop-test .taken) (sym (c .before .vertex-free .ensures) ∙ not-true _ (c .if1 .taken)))
+
+add-corner : tie.Need-add-corner Inv-loop μ-loop
+add-corner c = search needs
+
+loop-less : tie.Need-loop-less Inv-loop μ-loop
+loop-less c = search needs
+
+loop-again : tie.Need-loop-again Inv-loop μ-loop
+loop-again c = all-yet (c .before .before .before .loop .corner) _ (c .before .before .before .loop .inv) (sym (c .before .vertex-free .ensures) ∙ not-false _ (c .if1 .left))
+
+returns-2 : tie.Need-returns-2 Inv-loop μ-loop
+returns-2 c = all-of-them 4 (c .before .loop .corner) _ (c .before .loop .inv) (c .loop-test .left)
+
+pub vertices-free-spec : {M : Type 1} → statement M
+vertices-free-spec =
+    tie.close
+    (tie.spec
+    Inv-loop
+    μ-loop
+    loop-holds
+    vertex-free-requires
+    returns
+    add-corner
+    loop-less
+    loop-again
+    returns-2)

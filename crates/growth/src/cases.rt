@@ -1,0 +1,73 @@
+// The five cases, by the number of a row's triangles on the skin.
+use crate::edges::opposite_corner;
+use crate::edges::shared_edge;
+use crate::free::both_free;
+use crate::free::vertex_free;
+use crate::free::vertices_free;
+use skin::is_between;
+use table::faces::pick;
+use table::id_at;
+ghost use mathlib.Core.Path.{_≡_};
+ghost use Prim.Native.Nat.{_/_, _≤_, _<_};
+ghost use lib.ListN.{length};
+ghost use Rattle.rules.specs.Below.{count, pick};
+ghost use Rattle.rules.specs.Cases.{otherSide, free, passes};
+ghost use Rattle.rules.specs.Proposals.{insideIn};
+ghost use Rattle.table.specs.Rows.{tableIn};
+ghost use Rattle.skin.specs.Ground.{Ground, between};
+ghost use Rattle.growth.specs.Around.{Surrounded, Counted};
+
+// How many of a row's triangles are on the skin, and the left-out corner of the last of them.
+struct LeftOut {
+    count: usize,
+    last: usize,
+}
+
+fn left_out(neighbours: &[u32], marks: &[u8], row: usize) -> LeftOut
+    requires { ⌜ Surrounded (now neighbours) (now marks) row ⌝ }
+    ensures { λ r. ⌜ Counted (between (now (neighbours .entry)) (now (marks .entry)) row) 4 (r .count) (r .last) ⌝ }
+{
+    let mut count = 0;
+    let mut last = 0;
+    let mut corner = 0;
+    while corner < 4 {
+        let hit = is_between(neighbours, marks, row, corner);
+        count += pick(hit, 1, 0);
+        last = pick(hit, corner, last);
+        corner += 1;
+    }
+    LeftOut { count, last }
+}
+
+// No row of the other side holds the edge that is in neither of two skin triangles.
+fn edge_free(rows: &[u8], neighbours: &[u32], marks: &[u8], adding: bool, row: usize) -> bool
+    requires { ⌜ (length (now rows) / 16 ≤ length (now marks)) × (row < length (now rows) / 16) × Surrounded (now neighbours) (now marks) row
+        × (count 4 (between (now neighbours) (now marks) row) ≡ 2) ⌝ }
+    ensures { λ r. ⌜ r ≡ free (tableIn (now (rows .entry))) (otherSide adding (insideIn (now (marks .entry)))) row
+        (pick 4 (between (now (neighbours .entry)) (now (marks .entry)) row)) ⌝ }
+{
+    let edge = shared_edge(neighbours, marks, row);
+    let a = id_at(rows, row, opposite_corner(edge, 0));
+    let b = id_at(rows, row, opposite_corner(edge, 1));
+    both_free(rows, marks, adding, a, b)
+}
+
+pub(crate) fn passes(
+    rows: &[u8],
+    neighbours: &[u32],
+    marks: &[u8],
+    adding: bool,
+    row: usize,
+) -> bool
+    requires { ⌜ Ground (now rows) (now neighbours) × (length (now rows) / 16 ≤ length (now marks)) × (row < length (now rows) / 16) ⌝ }
+    ensures { λ r. ⌜ r ≡ passes (tableIn (now (rows .entry))) (insideIn (now (marks .entry))) adding row ⌝ }
+{
+    let skin = left_out(neighbours, marks, row);
+    let f = skin.count;
+    match f {
+        0 => vertices_free(rows, marks, adding, row),
+        1 => vertex_free(rows, marks, adding, row, skin.last),
+        2 => edge_free(rows, neighbours, marks, adding, row),
+        _ => true,
+    }
+}
