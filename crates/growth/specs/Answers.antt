@@ -111,7 +111,7 @@ module _ (t : Table) where
       ⊎-elim (λ (e : eqb (answer t marks p) 0 ≡ true). rw e (length-set marks (p .row) (bit (adds p)))) (λ (e : eqb (answer t marks p) 0 ≡ false). rw e)
       (true-or-false (eqb (answer t marks p) 0))
 
-  final-length : (marks : List ℕ) (ps : List Proposal) → length (finalMarks t marks ps) ≡ length marks
+  pub final-length : (marks : List ℕ) (ps : List Proposal) → length (finalMarks t marks ps) ≡ length marks
   unfolding finalMarks
   final-length marks [] = refl
   final-length marks (p ∷ ps) = final-length (marksAfter t marks p) ps ∙ marks-kept marks p

@@ -2,7 +2,8 @@
 use mathlib.Core.Path.{_≡_, refl, sym, ap, _∙_}
 use mathlib.Core.Bool.{Bool, true, false, not, cond}
 use mathlib.Core.List.{List, [], _∷_}
-use Prim.Native.Nat.{ℕ, _≤_, _<_}
+use Prim.Native.Nat.{ℕ, suc, _≤_, _<_}
+use native.Mathlib.Omega.{arith}
 use lib.Dec.{ltb}
 use borrow.Author.Tests.{lt-ltb, le-ltb, not-true, not-false}
 use lib.ListN.{length}
@@ -74,24 +75,29 @@ module _ (job : List ℕ) (long : 32 ≤ length job) (h : Header) (is : h ≡ he
 
 -- ---- the header that is read
 
--- its code is the first that matches of 1 to 3
-pub reading-code : (job : List ℕ) → codeOf (readingOf job) ≡ firstMatch 1 (layoutTests track job) .code
+-- the first that matches of codes 1 to 3, whose place is 0
+pub reading-verdict : (job : List ℕ) → firstMatch 1 (layoutTests track job) ≡ record { code = codeOf (readingOf job); place = 0 }
 unfolding readingOf layoutTests firstMatch given found
-reading-code job = go (ltb (length job) 32) (not (withinLimits (headerOf job))) (not (laidOut track (headerOf job) job))
+reading-verdict job = go (ltb (length job) 32) (not (withinLimits (headerOf job))) (not (laidOut track (headerOf job) job))
   where
-    go : (a b c : Bool) → codeOf (cond a Short (cond b Limits (cond c Layout (Laid (header job))))) ≡ firstMatch 1 ((λ _. given a) ∷ (λ _. given b) ∷ (λ _. given c) ∷ []) .code
+    go : (a b c : Bool) → firstMatch 1 ((λ _. given a) ∷ (λ _. given b) ∷ (λ _. given c) ∷ []) ≡ record { code = codeOf (cond a Short (cond b Limits (cond c Layout (Laid (header job))))); place = 0 }
     go true b c = refl
     go false true c = refl
     go false false true = refl
     go false false false = refl
 
--- what is laid out is the header of the job
-pub laid-header : (job : List ℕ) (h : Header) → readingOf job ≡ Laid h → h ≡ header job
+-- what is laid out is the header of the job, within its limits
+pub laid-header : (job : List ℕ) (h : Header) → readingOf job ≡ Laid h → (h ≡ header job) × (withinLimits (headerOf job) ≡ true) × (laidOut track (headerOf job) job ≡ true)
 unfolding readingOf
-laid-header job h = go (ltb (length job) 32) (not (withinLimits (headerOf job))) (not (laidOut track (headerOf job) job))
+laid-header job h e =
+    let (is, limits, laid) = go (ltb (length job) 32) (not (withinLimits (headerOf job))) (not (laidOut track (headerOf job) job)) e in
+    (is, not-false (withinLimits (headerOf job)) limits, not-false (laidOut track (headerOf job) job) laid)
   where
-    go : (a b c : Bool) → cond a Short (cond b Limits (cond c Layout (Laid (header job)))) ≡ Laid h → h ≡ header job
-    go true b c e = cc
-    go false true c e = cc
-    go false false true e = cc
-    go false false false e = cc
+    never : {n : ℕ} → suc n ≡ 0 → ⊥
+    never e = omega arith
+
+    go : (a b c : Bool) → cond a Short (cond b Limits (cond c Layout (Laid (header job)))) ≡ Laid h → (h ≡ header job) × (b ≡ false) × (c ≡ false)
+    go true b c e = absurd (never (ap codeOf e))
+    go false true c e = absurd (never (ap codeOf e))
+    go false false true e = absurd (never (ap codeOf e))
+    go false false false e = (cc, refl, refl)

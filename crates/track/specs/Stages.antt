@@ -1,0 +1,160 @@
+-- The run in stages: header and room, table, marks, proposals. Each says what is still to be decided when it begins.
+use mathlib.Core.Path.{_≡_, refl, sym, ap, ap₂, _∙_}
+use mathlib.Core.Logic.{⊎-elim, _≢_}
+use mathlib.Core.Bool.{false, not, cond}
+use mathlib.Core.List.{List, _++_, flatten}
+use Prim.Native.Nat.{ℕ, _+_, _*_, _/_, _≤_}
+use native.Mathlib.Omega.{arith}
+use lib.Dec.{eqb, leb, lit≤}
+use lib.ListN.{length, getD, take, drop, replicate}
+use lib.Seq.{take-append-seam, drop-append-seam}
+use borrow.Author.Tests.{ne-eqb, lt-leb}
+use Rattle.rules.specs.Table.{Table, neighbourList}
+use Rattle.rules.specs.First.{Test, Verdict, firstMatch}
+use Rattle.rules.specs.Skin.{skin}
+use Rattle.rules.specs.Proposals.{Proposal, insideIn, answersTo, finalMarks, taken}
+use Rattle.rules.specs.Job as rules
+use Rattle.rules.specs.Job.{track, headerOf, tableOfJob, marksOfJob, proposalsOfJob, Lent, written, markTests, Result, accepted, refused, verdictOn, run}
+use Rattle.rules.specs.Laws.First.{match-code}
+use Rattle.rules.specs.Laws.Written.{written-length, written-at}
+use Rattle.rules.specs.Reading.Closed.{Closed, list-length, list-at}
+use Rattle.job.specs.declared.Header.{Header}
+use Rattle.job.specs.Reading.{meant, header}
+use Rattle.table.specs.Rows.{tableIn}
+use Rattle.skin.specs.Ground.{Ground}
+use Rattle.marks.specs.Far.{Marked}
+use Rattle.growth.specs.Answers.{proposalsIn, final-length}
+use Rattle.track.specs.declared.Outcome.{Outcome}
+use Rattle.track.specs.Outcomes.{lent, result, refusal}
+
+-- the verdict decides: accepted, or refused
+unfoldable pub decided : rules.Header → Verdict → Table → List ℕ → List Proposal → Lent → Result
+decided h v t marks proposals lent = cond (eqb (v .code) 0) (accepted t marks proposals lent) (refused h v lent)
+
+pub run-decided : (job : List ℕ) (lent : Lent) → decided (headerOf job) (verdictOn track job lent) (tableOfJob track job) (marksOfJob track job) (proposalsOfJob track job) lent ≡ run track job lent
+unfolding run decided
+run-decided job lent = refl
+
+-- ---- what each stage may rest on
+
+-- rows that are a closed table whose neighbour list stands at the front of work, a mark for each row, and room for what a run leaves
+pub record Grounded (rows marks proposals : List ℕ) (buffers : Lent) : Type 0 where
+  pub idCount : ℕ
+  pub closed : Closed (tableIn rows) idCount
+  pub few : length rows / 16 ≤ 2048
+  pub each : length marks ≡ length rows / 16
+  pub listed : buffers .work ≡ written (neighbourList (tableIn rows)) (buffers .work)
+  pub work-room : 4 * (length rows / 16) ≤ length (buffers .work)
+  pub answer-room : length proposals / 8 ≤ length (buffers .answers)
+  pub mark-room : length rows / 16 ≤ length (buffers .finalMarks)
+  pub triangle-room : 6 * (length rows / 16) ≤ length (buffers .triangles)
+
+pub the-ground : {rows marks proposals : List ℕ} {buffers : Lent} → Grounded rows marks proposals buffers → Ground rows (buffers .work)
+the-ground {rows} {buffers = buffers} g = record {
+  idCount = g .idCount;
+  closed = g .closed;
+  few = g .few;
+  room = g .work-room;
+  at = λ r c l m.
+      ap (λ (xs : List ℕ). getD xs (4 * r + c) 0) (g .listed)
+      ∙ written-at (neighbourList (tableIn rows)) (buffers .work) (4 * r + c) (rw (list-length (tableIn rows)) (omega arith))
+      ∙ list-at (tableIn rows) r c l m;
+}
+
+-- what the starting marks are looked at with
+pub record Standing (h : Header) (rows marks proposals : List ℕ) (buffers : Lent) : Type 0 where
+  pub grounded : Grounded rows marks proposals buffers
+  pub below : Closed (tableIn rows) (h .ids)
+  pub few-ids : h .ids ≤ 1024
+  pub counted : h .rows ≡ length rows / 16
+
+pub the-marks : {h : Header} {rows marks proposals : List ℕ} {buffers : Lent} → Standing h rows marks proposals buffers → Marked rows (buffers .work) marks (h .ids)
+the-marks s = record { ground = the-ground (s .grounded); below = s .below .below; few = s .few-ids; each = s .grounded .each }
+
+-- a job that is laid out, and rooms that are not short
+pub record Laid (h : Header) (job : List ℕ) (buffers : Lent) : Type 0 where
+  pub is : h ≡ header job
+  pub few-ids : h .ids ≤ 1024
+  pub few : h .rows ≤ 2048
+  pub few-proposals : h .proposals ≤ 1024
+  pub long : length job ≡ 32 + 17 * h .rows + 8 * h .proposals
+  pub answer-room : h .proposals ≤ length (buffers .answers)
+  pub mark-room : h .rows ≤ length (buffers .finalMarks)
+  pub triangle-room : 6 * h .rows ≤ length (buffers .triangles)
+  pub work-room : 4 * h .rows ≤ length (buffers .work)
+
+-- ---- the verdict on the marks
+
+pub late : (code : ℕ) → 5 ≤ code → (tests : List Test) → firstMatch code tests .code ≢ 0 → leb (firstMatch code tests .code) 4 ≡ false
+late code l tests ne = ⊎-elim (λ z. absurd (ne z)) (λ m. lt-leb (firstMatch code tests .code) 4 (omega arith)) (match-code code tests)
+
+module _ {h : Header} {rows marks proposals : List ℕ} {buffers : Lent} (s : Standing h rows marks proposals buffers)
+    {v : Verdict} (is : v ≡ firstMatch 10 (markTests (tableIn rows) (h .ids) marks)) {o : Outcome} (told : o ≡ refusal v) where
+  pub marks-refused : {work : List ℕ} → o .code ≢ 0 → work ≡ written (replicate (4 * (length rows / 16)) 0) (buffers .work)
+      → result o (lent (buffers .answers) (buffers .finalMarks) (buffers .triangles) work)
+      ≡ decided (meant h) (firstMatch 10 (markTests (tableIn rows) (h .ids) marks)) (tableIn rows) marks (proposalsIn proposals) buffers
+  unfolding decided refused
+  marks-refused ne ew =
+      let off : v .code ≢ 0 = λ z. ne (ap (λ (x : Outcome). x .code) told ∙ z) in
+      rw (told, ← is, ne-eqb (v .code) 0 off, ap (λ (w : Verdict). leb (w .code) 4) is ∙ late 10 (lit≤ tt) (markTests (tableIn rows) (h .ids) marks) (λ z. off (ap (λ (w : Verdict). w .code) is ∙ z)), s .counted, ew)
+
+  pub marks-accepted : o .code ≡ 0 → {r : Result} → r ≡ accepted (tableIn rows) marks (proposalsIn proposals) buffers
+      → r ≡ decided (meant h) (firstMatch 10 (markTests (tableIn rows) (h .ids) marks)) (tableIn rows) marks (proposalsIn proposals) buffers
+  unfolding decided
+  marks-accepted z e = rw (← is, sym (ap (λ (x : Outcome). x .code) told) ∙ z) e
+
+-- ---- the front of the final marks, lent by itself
+
+front-written : (xs d : List ℕ) {n : ℕ} → n ≡ length xs → take n (written xs d) ≡ xs
+unfolding written
+front-written xs d e = rw e (take-append-seam xs (drop (length xs) d))
+
+pub front-length : (xs d : List ℕ) {whole : List ℕ} → whole ≡ written xs d → length xs ≡ length (take (length xs) whole)
+front-length xs d e = rw e (ap length (sym (front-written xs d refl)))
+
+module _ (t : Table) (marks final₀ : List ℕ) (ps : List Proposal) {whole : List ℕ} (copied : whole ≡ written marks final₀) where
+  front-is : take (length marks) whole ≡ marks
+  front-is = rw copied (front-written marks final₀ refl)
+
+  -- the answers to proposals on the marks that were copied there, and what is left in the whole
+  pub answered : (answers₀ : List ℕ) {r : ℕ} {answers left : List ℕ} → r ≡ taken (answersTo t (take (length marks) whole) ps)
+      → answers ≡ written (answersTo t (take (length marks) whole) ps) answers₀ → left ≡ finalMarks t (take (length marks) whole) ps
+      → (r ≡ taken (answersTo t marks ps)) × (answers ≡ written (answersTo t marks ps) answers₀) × (left ++ drop (length marks) whole ≡ written (finalMarks t marks ps) final₀)
+  unfolding written
+  answered answers₀ {left = left} er ea el = (
+    er ∙ ap (λ (m : List ℕ). taken (answersTo t m ps)) front-is,
+    ea ∙ ap (λ (m : List ℕ). written (answersTo t m ps) answers₀) front-is,
+    ap₂ (λ (x y : List ℕ). x ++ y) left-is (ap (drop (length marks)) copied ∙ drop-append-seam marks (drop (length marks) final₀))
+        ∙ ap (λ (n : ℕ). finalMarks t marks ps ++ drop n final₀) (sym (final-length t marks ps)),
+  )
+    where
+      left-is : left ≡ finalMarks t marks ps
+      left-is = el ∙ ap (λ (m : List ℕ). finalMarks t m ps) front-is
+
+pub final-room : {rows marks proposals : List ℕ} {buffers : Lent} → Grounded rows marks proposals buffers → {final : List ℕ}
+    → final ≡ written (finalMarks (tableIn rows) marks (proposalsIn proposals)) (buffers .finalMarks) → length rows / 16 ≤ length final
+final-room {rows} {marks} {proposals} {buffers} g e =
+    rw (e, written-length (finalMarks (tableIn rows) marks (proposalsIn proposals)) (buffers .finalMarks) (rw (final-length (tableIn rows) marks (proposalsIn proposals), g .each) (g .mark-room))) (g .mark-room)
+
+-- what an accepted job leaves, once its marks are answered and its skin is listed
+pub grown : {rows marks proposals : List ℕ} {buffers : Lent} → Grounded rows marks proposals buffers → {count taken-count : ℕ} {answers final triangles : List ℕ}
+    → taken-count ≡ taken (answersTo (tableIn rows) marks (proposalsIn proposals)) → answers ≡ written (answersTo (tableIn rows) marks (proposalsIn proposals)) (buffers .answers)
+    → final ≡ written (finalMarks (tableIn rows) marks (proposalsIn proposals)) (buffers .finalMarks)
+    → count ≡ length (skin (tableIn rows) (insideIn (take (length rows / 16) final)))
+    → triangles ≡ written (flatten (skin (tableIn rows) (insideIn (take (length rows / 16) final)))) (buffers .triangles)
+    → result (record { code = 0; place = 0; taken = taken-count; triangles = count }) (lent answers final triangles (buffers .work)) ≡ accepted (tableIn rows) marks (proposalsIn proposals) buffers
+unfolding accepted
+grown {rows} {marks} {proposals} {buffers} g {final = final} et ea ef ec el =
+    rw (et, ea, ec, el, front, ef) (ap (λ (w : List ℕ). result (record { code = 0; place = 0; taken = taken given; triangles = length sk }) (lent (written given (buffers .answers)) (written ms (buffers .finalMarks)) (written (flatten sk) (buffers .triangles)) w)) (g .listed))
+  where
+    given : List ℕ
+    given = answersTo (tableIn rows) marks (proposalsIn proposals)
+
+    ms : List ℕ
+    ms = finalMarks (tableIn rows) marks (proposalsIn proposals)
+
+    sk : List (List ℕ)
+    sk = skin (tableIn rows) (insideIn ms)
+
+    front : take (length rows / 16) final ≡ ms
+    front = ap (take (length rows / 16)) ef ∙ front-written ms (buffers .finalMarks) (sym (g .each) ∙ sym (final-length (tableIn rows) marks (proposalsIn proposals)))
