@@ -130,7 +130,7 @@ unfolding taken
 taken-more [] a = add-comm (bit (eqb a 0)) 0
 taken-more (x ∷ xs) a = rw (taken-more xs a) (omega arith)
 
-taken-few : (xs : List ℕ) → taken xs ≤ length xs
+pub taken-few : (xs : List ℕ) → taken xs ≤ length xs
 unfolding taken bit
 taken-few [] = omega arith
 taken-few (x ∷ xs) = omega (arith, taken-few xs, one-at-most (eqb x 0))
