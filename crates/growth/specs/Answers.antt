@@ -4,10 +4,10 @@ use mathlib.Core.Logic.{⊎-elim}
 use mathlib.Core.Bool.{Bool, true, false, not, _||_, cond}
 use mathlib.Core.List.{List, [], _∷_, _++_}
 use Prim.Native.Nat.{ℕ, suc, _+_, _*_, _/_, _≤_, _<_}
-use native.Mathlib.Nat.{le-antisymm, add-comm}
+use native.Mathlib.Nat.{le-antisymm}
 use native.Mathlib.Omega.{arith}
 use lib.Dec.{eqb, ltb}
-use lib.ListN.{length, set, length-set}
+use lib.ListN.{length, set}
 use borrow.Author.Tests.{eqb-true, lt-ltb, le-ltb, ltb-true}
 use Rattle.rules.specs.Below.{found, bit, gather, tabulate}
 use Rattle.rules.specs.Table.{Table, holds, outer}
@@ -19,9 +19,9 @@ use Rattle.rules.specs.Words.{word}
 use Rattle.rules.specs.Laws.Truth.{true-or-false}
 use Rattle.rules.specs.Laws.First.{match-here, match-later, match-end}
 use Rattle.rules.specs.Laws.Lists.{tabulate-more, tabulate-length}
-use Rattle.rules.specs.Laws.Proposals.{final-append, answers-append, answers-length}
+use Rattle.rules.specs.Laws.Count.{bit-small}
+use Rattle.rules.specs.Laws.Proposals.{final-length, final-more, answers-length, answers-more, taken-more, taken-few}
 use Rattle.rules.specs.Laws.Written.{written-none, written-length, written-snoc}
-use Rattle.growth.specs.Around.{one-at-most}
 
 abbrev pub proposal : ℕ → ℕ → Proposal
 proposal row kind = record { row = row; kind = kind }
@@ -104,37 +104,6 @@ module _ (t : Table) (marks bytes : List ℕ) (k : ℕ) {row kind given : ℕ} (
 
 -- ---- proposals one after the other
 
-module _ (t : Table) where
-  marks-kept : (marks : List ℕ) (p : Proposal) → length (marksAfter t marks p) ≡ length marks
-  unfolding marksAfter
-  marks-kept marks p =
-      ⊎-elim (λ (e : eqb (answer t marks p) 0 ≡ true). rw e (length-set marks (p .row) (bit (adds p)))) (λ (e : eqb (answer t marks p) 0 ≡ false). rw e)
-      (true-or-false (eqb (answer t marks p) 0))
-
-  pub final-length : (marks : List ℕ) (ps : List Proposal) → length (finalMarks t marks ps) ≡ length marks
-  unfolding finalMarks
-  final-length marks [] = refl
-  final-length marks (p ∷ ps) = final-length (marksAfter t marks p) ps ∙ marks-kept marks p
-
-  -- one proposal more
-  final-more : (marks : List ℕ) (ps : List Proposal) (p : Proposal) → finalMarks t marks (ps ++ p ∷ []) ≡ marksAfter t (finalMarks t marks ps) p
-  unfolding finalMarks
-  final-more marks ps p = final-append t marks ps (p ∷ [])
-
-  answers-more : (marks : List ℕ) (ps : List Proposal) (p : Proposal) → answersTo t marks (ps ++ p ∷ []) ≡ answersTo t marks ps ++ answer t (finalMarks t marks ps) p ∷ []
-  unfolding answersTo
-  answers-more marks ps p = answers-append t marks ps (p ∷ [])
-
-taken-more : (xs : List ℕ) (a : ℕ) → taken (xs ++ a ∷ []) ≡ taken xs + bit (eqb a 0)
-unfolding taken
-taken-more [] a = add-comm (bit (eqb a 0)) 0
-taken-more (x ∷ xs) a = rw (taken-more xs a) (omega arith)
-
-pub taken-few : (xs : List ℕ) → taken xs ≤ length xs
-unfolding taken bit
-taken-few [] = omega arith
-taken-few (x ∷ xs) = omega (arith, taken-few xs, one-at-most (eqb x 0))
-
 -- the first k proposals of a section
 abbrev pub proposalsTo : List ℕ → ℕ → List Proposal
 proposalsTo bytes k = tabulate k (proposalIn bytes)
@@ -158,7 +127,7 @@ module _ (t : Table) (bytes marks₀ answers₀ : List ℕ) where
     pub taken-small : {r : ℕ} → r ≡ bit (eqb (answer t marks (proposalIn bytes k)) 0) → count + r ≤ k + 1
     unfolding bit
     taken-small e =
-        omega (arith, e, one-at-most (eqb (answer t marks (proposalIn bytes k)) 0), a .counted, taken-few (answersTo t marks₀ (proposalsTo bytes k)), answers-so-far k)
+        omega (arith, e, bit-small (eqb (answer t marks (proposalIn bytes k)) 0), a .counted, taken-few (answersTo t marks₀ (proposalsTo bytes k)), answers-so-far k)
 
     pub marks-length : length marks ≡ length marks₀
     marks-length = ap length (a .standing) ∙ final-length t marks₀ (proposalsTo bytes k)

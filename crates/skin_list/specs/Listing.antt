@@ -2,14 +2,14 @@
 use mathlib.Core.Path.{_≡_, refl, sym, ap, _∙_}
 use mathlib.Core.Logic.{⊎-elim}
 use mathlib.Core.Bool.{Bool, true, false, _&&_, cond}
-use mathlib.Core.List.{List, [], _∷_, _++_, flatten, append-nil, append-assoc}
+use mathlib.Core.List.{List, [], _∷_, _++_, flatten, append-nil}
 use Prim.Native.Nat.{ℕ, suc, _+_, _-_, _*_, _/_, _%_, _^_, _≤_, _<_}
 use native.Mathlib.Nat.{not-suc-le-zero, le-antisymm, le-trans, mod-lt}
 use native.Mathlib.Numerals.{add-one}
 use native.Mathlib.Omega.{arith}
 use lib.Dec.{lit<}
 use lib.ListN.{length, getD, set, length-append}
-use lib.Seq.{sets, length-sets, append-snoc}
+use lib.Seq.{sets, length-sets}
 use Rattle.rules.specs.Below.{gather, only, pick}
 use Rattle.rules.specs.Shape.{facet}
 use Rattle.rules.specs.Skin.{onSkin, triangle, skinOf, skin}
@@ -17,36 +17,14 @@ use Rattle.rules.specs.Proposals.{insideIn}
 use Rattle.rules.specs.Job.{written}
 use Rattle.rules.specs.Laws.Below.{below-suc}
 use Rattle.rules.specs.Laws.Truth.{true-or-false}
-use Rattle.rules.specs.Laws.Count.{sum-append}
-use Rattle.rules.specs.Laws.Lists.{gather-more, gather-same, gather-blocks, gather-length}
+use Rattle.rules.specs.Laws.Lists.{gather-more, gather-same, gather-blocks, gather-grows, flatten-snoc}
 use Rattle.rules.specs.Laws.Places.{row-of, within-row, row-below}
 use Rattle.rules.specs.Laws.Words.{word-below}
-use Rattle.rules.specs.Laws.Written.{written-none, written-snoc}
+use Rattle.rules.specs.Laws.Written.{written-none, written-run}
 use Rattle.rules.specs.Reading.Room.{at-most-2N, triangle-length}
 use Rattle.table.specs.Rows.{idIn, tableIn, id-word}
 use Rattle.table.specs.Faces.{faceCorners, cornerOf}
 use Rattle.skin.specs.Ground.{Ground, between, between-skin, neighbour-below, neighbour-listed}
-
--- ---- laws of lists
-
--- a longer gathering is no shorter
-gather-grows : (a b : ℕ) (f : ℕ → List (List ℕ)) → a ≤ b → length (gather a f) ≤ length (gather b f)
-gather-grows a b f l =
-    let split : b ≡ a + (b - a) = omega arith in
-    rw split (rw (gather-length a f, gather-length (a + (b - a)) f, sum-append a (b - a) (λ k. length (f k))) (omega arith))
-
-flatten-snoc : (xs : List (List ℕ)) (x : List ℕ) → flatten (xs ++ x ∷ []) ≡ flatten xs ++ x
-unfolding flatten
-flatten-snoc [] x = append-nil x
-flatten-snoc (y ∷ ys) x = ap (λ (zs : List ℕ). y ++ zs) (flatten-snoc ys x) ∙ sym (append-assoc y (flatten ys) x)
-
--- several numbers more
-written-run : (ys xs d : List ℕ) (n : ℕ) → n ≡ length xs → n + length ys ≤ length d → sets (written xs d) n ys ≡ written (xs ++ ys) d
-written-run [] xs d n e l = ap (λ (zs : List ℕ). written zs d) (sym (append-nil xs))
-written-run (y ∷ ys) xs d n e l =
-    rw e (ap (λ (zs : List ℕ). sets zs (suc (length xs)) ys) (written-snoc xs y d (omega arith)))
-    ∙ written-run ys (xs ++ y ∷ []) d (suc n) (omega (arith, length-append xs (y ∷ []))) (omega arith)
-    ∙ ap (λ (zs : List ℕ). written zs d) (append-snoc xs y ys)
 
 -- ---- the corners of a triangle
 

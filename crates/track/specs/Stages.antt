@@ -15,6 +15,7 @@ use Rattle.rules.specs.Skin.{skin}
 use Rattle.rules.specs.Proposals.{Proposal, insideIn, answersTo, finalMarks, taken}
 use Rattle.rules.specs.Job as rules
 use Rattle.rules.specs.Job.{track, headerOf, tableOfJob, marksOfJob, proposalsOfJob, Lent, written, markTests, Result, accepted, refused, verdictOn, run}
+use Rattle.rules.specs.Laws.Proposals.{final-length}
 use Rattle.rules.specs.Laws.First.{match-code}
 use Rattle.rules.specs.Laws.Written.{written-length, written-at}
 use Rattle.rules.specs.Reading.Closed.{Closed, list-length, list-at}
@@ -23,7 +24,7 @@ use Rattle.job.specs.Reading.{meant, header}
 use Rattle.table.specs.Rows.{tableIn}
 use Rattle.skin.specs.Ground.{Ground}
 use Rattle.marks.specs.Far.{Marked}
-use Rattle.growth.specs.Answers.{proposalsIn, final-length}
+use Rattle.growth.specs.Answers.{proposalsIn}
 use Rattle.track.specs.declared.Outcome.{Outcome}
 use Rattle.track.specs.Outcomes.{lent, result, refusal}
 

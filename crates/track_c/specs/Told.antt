@@ -12,13 +12,12 @@ use Rattle.rules.specs.Proposals.{insideIn, answersTo, finalMarks, taken}
 use Rattle.rules.specs.Job.{track, headerOf, withinLimits, rowsTable, tableOfJob, marksOfJob, proposalsOfJob, Lent, Result, accepted, run}
 use Rattle.rules.specs.Laws.Truth.{same-or-not, not-both, is-true}
 use Rattle.rules.specs.Laws.Lists.{tabulate-length}
-use Rattle.rules.specs.Laws.Proposals.{answers-length}
+use Rattle.rules.specs.Laws.Proposals.{answers-length, taken-few}
 use Rattle.rules.specs.Laws.First.{FirstOf}
 use Rattle.rules.specs.Reading.Room.{at-most-2N}
 use Rattle.rules.specs.Reading.Codes.{WithinLimits, limits-read, jobConditions, run-accepted, run-code, run-code-below, code-exactly, accepted-closed, accepted-header, refusal-keeps}
 use Rattle.track.specs.declared.Outcome.{Outcome}
 use Rattle.track.specs.Outcomes.{result}
-use Rattle.growth.specs.Answers.{taken-few}
 
 -- code, place, taken, triangles
 unfoldable pub told : Result → List ℕ

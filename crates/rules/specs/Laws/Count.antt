@@ -78,6 +78,11 @@ pub bit-zero : {b : Bool} → b ≡ false → bit b ≡ 0
 unfolding bit
 bit-zero f = rw f
 
+pub bit-small : (b : Bool) → bit b ≤ 1
+unfolding bit
+bit-small true = omega arith
+bit-small false = omega arith
+
 pub none-count : (n : ℕ) (p : ℕ → Bool) → ((k : ℕ) → k < n → p k ≡ false) → count n p ≡ 0
 unfolding count
 none-count n p off = sum-zero n (λ k. bit (p k)) (λ k l. bit-zero (off k l))

@@ -2,10 +2,11 @@
 use mathlib.Core.Path.{_≡_, refl, sym, ap, _∙_, subst, fun-ext}
 use mathlib.Core.Logic.{⊎-elim}
 use mathlib.Core.Bool.{Bool, true, false}
-use mathlib.Core.List.{List, [], _∷_, _++_, List·Memᴰ, List·Memᴰ·head, List·Memᴰ·tail, List·Memᴰ·not-nil, List·Memᴰ·append-cases, List·Memᴰ·eq-of-singleton, Memᴰ·append-left, Memᴰ·append-right, append-nil, append-assoc}
-use Prim.Native.Nat.{ℕ, zero, suc, _+_, _*_, _<_}
+use mathlib.Core.List.{List, [], _∷_, _++_, List·Memᴰ, List·Memᴰ·head, List·Memᴰ·tail, List·Memᴰ·not-nil, List·Memᴰ·append-cases, List·Memᴰ·eq-of-singleton, Memᴰ·append-left, Memᴰ·append-right, append-nil, append-assoc, flatten}
+use Prim.Native.Nat.{ℕ, zero, suc, _+_, _-_, _*_, _≤_, _<_}
 use native.Mathlib.Nat.{le-of-suc-le-suc, not-suc-le-zero, eq-or-lt-of-le, le-refl, le-step, lt-irrefl, add-zero, add-suc, mul-zero, mul-suc}
 use native.Mathlib.Numerals.{add-one}
+use native.Mathlib.Omega.{arith}
 use lib.ListN.{length, getD, length-append, List·getD-append}
 use lib.Seq.{getD-at}
 use Rattle.rules.specs.Below.{bit, sum, count, gather, tabulate, only, pick}
@@ -42,6 +43,17 @@ module _ {ℓ} {A : Type ℓ} where
   unfolding gather sum
   gather-length zero f = refl
   gather-length (suc n) f = length-append (gather n f) (f n) ∙ ap (λ (x : ℕ). x + length (f n)) (gather-length n f)
+
+  -- a longer gathering is no shorter
+  pub gather-grows : (a b : ℕ) (f : ℕ → List A) → a ≤ b → length (gather a f) ≤ length (gather b f)
+  gather-grows a b f l =
+      let split : b ≡ a + (b - a) = omega arith in
+      rw split (rw (gather-append a (b - a) f, length-append (gather a f) (gather (b - a) (λ k. f (a + k)))) (omega arith))
+
+  pub flatten-snoc : (xs : List (List A)) (x : List A) → flatten (xs ++ x ∷ []) ≡ flatten xs ++ x
+  unfolding flatten
+  flatten-snoc [] x = append-nil x
+  flatten-snoc (y ∷ ys) x = ap (λ (zs : List A). y ++ zs) (flatten-snoc ys x) ∙ sym (append-assoc y (flatten ys) x)
 
   pub in-gather : (n : ℕ) (f : ℕ → List A) (x : A) (k : ℕ) → k < n → Among x (f k) → Among x (gather n f)
   unfolding gather
@@ -123,18 +135,29 @@ abbrev pub Distinct {ℓ} : {A : Type ℓ} → List A → Type ℓ
 Distinct [] = Unit
 Distinct (x ∷ xs) = (Among x xs → ⊥) × Distinct xs
 
-distinct-more : (xs : List ℕ) (k : ℕ) → Distinct xs → (Among k xs → ⊥) → Distinct (xs ++ (k ∷ []))
+distinct-more {ℓ} : {A : Type ℓ} (xs : List A) (k : A) → Distinct xs → (Among k xs → ⊥) → Distinct (xs ++ (k ∷ []))
 distinct-more [] k d new = (List·Memᴰ·not-nil, tt)
 distinct-more (x ∷ xs) k d new = (
   λ m. ⊎-elim (d .0) (λ (i : Among x (k ∷ [])). new (List·Memᴰ·head (sym (List·Memᴰ·eq-of-singleton i)))) (List·Memᴰ·append-cases xs m),
   distinct-more xs k (d .1) (λ m. new (List·Memᴰ·tail m)),
 )
 
-pub pick-distinct : (n : ℕ) (p : ℕ → Bool) → Distinct (pick n p)
-unfolding pick gather only
-pick-distinct zero p = tt
-pick-distinct (suc n) p = go (p n) (pick-distinct n p)
+-- what is gathered stands once, if no two numbers bring the same
+pub gathered-once {ℓ} : {A : Type ℓ} (n : ℕ) (p : ℕ → Bool) (f : ℕ → A) → ((j k : ℕ) → j < n → k < n → p j ≡ true → p k ≡ true → f j ≡ f k → j ≡ k) → Distinct (gather n (λ k. only (p k) (f k)))
+unfolding gather only
+gathered-once zero p f one = tt
+gathered-once {A = A} (suc n) p f one = go (p n) refl (gathered-once n p f (λ j k lj lk. one j k (le-step lj) (le-step lk)))
   where
-    go : (b : Bool) → Distinct (pick n p) → Distinct (pick n p ++ only b n)
-    go true d = distinct-more (pick n p) n d (λ m. lt-irrefl n (pick-in n p n m .0))
-    go false d = rw append-nil d
+    new : p n ≡ true → Among (f n) (gather n (λ k. only (p k) (f k))) → ⊥
+    new on m =
+        let (k, l, i) = gather-in n (λ k. only (p k) (f k)) (f n) m in
+        let (e, q) = only-in (p k) (f k) (f n) i in
+        lt-irrefl n (subst (λ (j : ℕ). j < n) (sym (one n k (le-refl (suc n)) (le-step l) on e q)) l)
+
+    go : (b : Bool) → p n ≡ b → Distinct (gather n (λ k. only (p k) (f k))) → Distinct (gather n (λ k. only (p k) (f k)) ++ only b (f n))
+    go true on before = distinct-more (gather n (λ k. only (p k) (f k))) (f n) before (new on)
+    go false off before = rw append-nil before
+
+pub pick-distinct : (n : ℕ) (p : ℕ → Bool) → Distinct (pick n p)
+unfolding pick
+pick-distinct n p = gathered-once n p (λ k. k) (λ j k _ _ _ _ e. e)

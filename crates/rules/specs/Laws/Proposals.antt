@@ -1,10 +1,18 @@
 -- Laws of answering: a list of proposals, one part after the other.
-use mathlib.Core.Path.{_≡_, refl, ap}
+use mathlib.Core.Path.{_≡_, refl, ap, _∙_}
+use mathlib.Core.Logic.{⊎-elim}
+use mathlib.Core.Bool.{true, false}
 use mathlib.Core.List.{List, [], _∷_, _++_}
-use Prim.Native.Nat.{ℕ}
-use lib.ListN.{length}
+use Prim.Native.Nat.{ℕ, zero, suc, _+_, _≤_, _<_}
+use native.Mathlib.Nat.{add-comm, not-suc-le-zero, le-of-suc-le-suc}
+use native.Mathlib.Omega.{arith}
+use lib.Dec.{eqb}
+use lib.ListN.{length, getD, take, length-set}
+use Rattle.rules.specs.Below.{bit}
 use Rattle.rules.specs.Table.{Table}
-use Rattle.rules.specs.Proposals.{Proposal, answer, marksAfter, answersTo, finalMarks}
+use Rattle.rules.specs.Proposals.{Proposal, adds, answer, marksAfter, answersTo, finalMarks, taken}
+use Rattle.rules.specs.Laws.Truth.{true-or-false}
+use Rattle.rules.specs.Laws.Count.{bit-small}
 
 module _ (t : Table) where
   pub final-append : (marks : List ℕ) (xs ys : List Proposal) → finalMarks t marks (xs ++ ys) ≡ finalMarks t (finalMarks t marks xs) ys
@@ -22,3 +30,42 @@ module _ (t : Table) where
   unfolding answersTo
   answers-length marks [] = refl
   answers-length marks (p ∷ ps) = rw (answers-length (marksAfter t marks p) ps)
+
+  -- each is judged on the marks then standing
+  pub answer-at : (marks : List ℕ) (ps : List Proposal) (d : Proposal) (k : ℕ) → k < length ps → getD (answersTo t marks ps) k 0 ≡ answer t (finalMarks t marks (take k ps)) (getD ps k d)
+  unfolding answersTo finalMarks
+  answer-at marks [] d k l = absurd (not-suc-le-zero l)
+  answer-at marks (p ∷ ps) d zero l = refl
+  answer-at marks (p ∷ ps) d (suc k) l = answer-at (marksAfter t marks p) ps d k (le-of-suc-le-suc l)
+
+  -- no mark is added or lost
+  marks-kept : (marks : List ℕ) (p : Proposal) → length (marksAfter t marks p) ≡ length marks
+  unfolding marksAfter
+  marks-kept marks p =
+      ⊎-elim (λ (e : eqb (answer t marks p) 0 ≡ true). rw e (length-set marks (p .row) (bit (adds p)))) (λ (e : eqb (answer t marks p) 0 ≡ false). rw e)
+      (true-or-false (eqb (answer t marks p) 0))
+
+  pub final-length : (marks : List ℕ) (ps : List Proposal) → length (finalMarks t marks ps) ≡ length marks
+  unfolding finalMarks
+  final-length marks [] = refl
+  final-length marks (p ∷ ps) = final-length (marksAfter t marks p) ps ∙ marks-kept marks p
+
+  -- one proposal more
+  pub final-more : (marks : List ℕ) (ps : List Proposal) (p : Proposal) → finalMarks t marks (ps ++ p ∷ []) ≡ marksAfter t (finalMarks t marks ps) p
+  unfolding finalMarks
+  final-more marks ps p = final-append marks ps (p ∷ [])
+
+  pub answers-more : (marks : List ℕ) (ps : List Proposal) (p : Proposal) → answersTo t marks (ps ++ p ∷ []) ≡ answersTo t marks ps ++ answer t (finalMarks t marks ps) p ∷ []
+  unfolding answersTo
+  answers-more marks ps p = answers-append marks ps (p ∷ [])
+
+pub taken-more : (xs : List ℕ) (a : ℕ) → taken (xs ++ a ∷ []) ≡ taken xs + bit (eqb a 0)
+unfolding taken
+taken-more [] a = add-comm (bit (eqb a 0)) 0
+taken-more (x ∷ xs) a = rw (taken-more xs a) (omega arith)
+
+-- no more are taken than are answered
+pub taken-few : (xs : List ℕ) → taken xs ≤ length xs
+unfolding taken
+taken-few [] = omega arith
+taken-few (x ∷ xs) = omega (arith, taken-few xs, bit-small (eqb x 0))

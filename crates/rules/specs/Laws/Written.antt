@@ -1,11 +1,11 @@
 -- Buffers with a list written at their front.
 use mathlib.Core.Path.{_≡_, refl, sym, ap, _∙_}
-use mathlib.Core.List.{List, [], _∷_, _++_}
+use mathlib.Core.List.{List, [], _∷_, _++_, append-nil}
 use Prim.Native.Nat.{ℕ, suc, _+_, _-_, _≤_, _<_}
 use native.Mathlib.Numerals.{add-one}
 use native.Mathlib.Omega.{arith}
 use lib.ListN.{length, getD, set, drop, replicate, length-append, length-drop, length-replicate, List·getD-append, replicate-append-replicate}
-use lib.Seq.{drop-cons, set-append-seam, append-snoc, drop-append-add, drop-drop}
+use lib.Seq.{sets, drop-cons, set-append-seam, append-snoc, drop-append-add, drop-drop}
 use Rattle.rules.specs.Below.{tabulate}
 use Rattle.rules.specs.Job.{written}
 use Rattle.rules.specs.Laws.Lists.{tabulate-more, tabulate-length}
@@ -31,6 +31,14 @@ written-snoc xs y d l =
     ∙ set-append-seam xs (getD d (length xs) 0) (drop (suc (length xs)) d) y
     ∙ sym (append-snoc xs y (drop (suc (length xs)) d))
     ∙ ap (λ (n : ℕ). (xs ++ y ∷ []) ++ drop n d) (sym (length-append xs (y ∷ []) ∙ add-one (length xs)))
+
+-- several numbers more
+pub written-run : (ys xs d : List ℕ) (n : ℕ) → n ≡ length xs → n + length ys ≤ length d → sets (written xs d) n ys ≡ written (xs ++ ys) d
+written-run [] xs d n e l = ap (λ (zs : List ℕ). written zs d) (sym (append-nil xs))
+written-run (y ∷ ys) xs d n e l =
+    rw e (ap (λ (zs : List ℕ). sets zs (suc (length xs)) ys) (written-snoc xs y d (omega arith)))
+    ∙ written-run ys (xs ++ y ∷ []) d (suc n) (omega (arith, length-append xs (y ∷ []))) (omega arith)
+    ∙ ap (λ (zs : List ℕ). written zs d) (append-snoc xs y ys)
 
 pub written-more : (n : ℕ) (f : ℕ → ℕ) (d : List ℕ) → n < length d → set (written (tabulate n f) d) n (f n) ≡ written (tabulate (n + 1) f) d
 written-more n f d l =

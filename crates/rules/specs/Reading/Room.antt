@@ -4,23 +4,25 @@
 use mathlib.Core.Path.{_≡_, refl, sym, ap, _∙_, subst}
 use mathlib.Core.Logic.{⊎-elim, _↔_, _≢_, Ne·symm}
 use mathlib.Core.Bool.{Bool, true, false, not, _&&_, xor}
-use mathlib.Core.List.{List, [], _∷_, flatten, List·Memᴰ·head, List·Memᴰ·tail, Memᴰ·cast}
-use Prim.Native.Nat.{ℕ, _+_, _*_, _≤_, _<_, zero-le}
-use native.Mathlib.Nat.{le-refl, le-trans, le-of-eq, mul-one}
+use mathlib.Core.List.{List, [], _∷_, flatten, List·Memᴰ·head, List·Memᴰ·tail, Memᴰ·cast, Memᴰ·map, Memᴰ·of-map}
+use Prim.Native.Nat.{ℕ, _+_, _*_, _/_, _%_, _≤_, _<_, zero-le}
+use native.Mathlib.Nat.{le-refl, le-trans, le-of-eq, mul-one, mod-lt, div-add-mod}
 use native.Mathlib.Omega.{arith}
-use lib.Dec.{eqb}
+use lib.Dec.{eqb, lit<}
 use lib.ListN.{length, length-append, length-map}
 use borrow.Author.Tests.{eqb-true, eq-eqb, eqb-false, ne-eqb, not-true}
-use Rattle.rules.specs.Below.{bit, sum, count, only}
+use Rattle.rules.specs.Below.{bit, sum, count, gather, only, pick}
 use Rattle.rules.specs.Shape.{facet}
 use Rattle.rules.specs.Table.{Table, side}
 use Rattle.rules.specs.Skin.{onSkin, triangle, skinOf, skin}
 use Rattle.rules.specs.Laws.Truth.{true-or-false, not-both, and-first, and-second, and-both, same-or-not}
 use Rattle.rules.specs.Laws.Count.{sum-same, sum-add, sum-zero, sum-le, sum-const, sum-swap, bit-one, bit-zero, count-without, count-not, one-count, TheOther}
-use Rattle.rules.specs.Laws.Lists.{Among, gather-length, in-gather, gather-in, in-only, only-in, only-length, pick-length}
-use Rattle.rules.specs.Reading.Neighbours.{Side, side-reads, sides, sides-back}
+use Rattle.rules.specs.Laws.Lists.{Among, Distinct, gather-same, gather-blocks, gather-length, in-gather, gather-in, gathered-once, in-only, only-in, only-length, in-pick, pick-in, pick-length}
+use Rattle.rules.specs.Laws.Places.{row-of, within-row, row-below}
+use Rattle.rules.specs.Reading.Rows.{one-corner}
+use Rattle.rules.specs.Reading.Neighbours.{Side, side-self, side-reads, sides, sides-back}
 use Rattle.rules.specs.Reading.Closed.{Closed, across-is, across-other}
-use Rattle.rules.specs.Reading.Skin.{skin-between}
+use Rattle.rules.specs.Reading.Skin.{skin-reads, skin-between}
 
 module _ (t : Table) (inside : ℕ → Bool) where
   -- the skin triangles of an inside row
@@ -219,3 +221,56 @@ skin-words t inside four =
 -- and 6N words hold it
 pub skin-fits : (t : Table) (inside : ℕ → Bool) {idCount : ℕ} → Closed t idCount → t .corners ≡ 4 → length (flatten (skin t inside)) ≤ 6 * t .rows
 skin-fits t inside closed four = omega (arith, skin-words t inside four, at-most-2N t inside closed four)
+
+-- ---- each triangle stands once
+
+module _ (t : Table) (four : t .corners ≡ 4) (r c : ℕ) where
+  -- the ids of a triangle are those of its corners
+  triangle-holds : (k : ℕ) → k < 4 → k ≢ c → Among (t .id r k) (triangle t r c)
+  unfolding triangle facet
+  triangle-holds k l ne = Memᴰ·map (t .id r) (in-pick (t .corners) (λ k. not (eqb k c)) k (rw four l) (ap not (ne-eqb k c ne)))
+
+  holds-triangle : (u : ℕ) → Among u (triangle t r c) → (k : ℕ) × (k < 4) × (k ≢ c) × (t .id r k ≡ u)
+  unfolding triangle facet
+  holds-triangle u m =
+      let (k, i, e) = Memᴰ·of-map (t .id r) (pick (t .corners) (λ k. not (eqb k c))) m in
+      let (l, p) = pick-in (t .corners) (λ k. not (eqb k c)) k i in
+      (k, subst (λ (n : ℕ). k < n) four l, eqb-false k c (not-true (eqb k c) p), e)
+
+module _ (t : Table) (inside : ℕ → Bool) {idCount : ℕ} (closed : Closed t idCount) (four : t .corners ≡ 4) where
+  -- two inside rows have no skin triangle in common, and no row has one twice
+  one-place : (r c s d : ℕ) → r < t .rows → c < 4 → s < t .rows → d < 4 → (inside r && onSkin t inside r c) ≡ true → (inside s && onSkin t inside s d) ≡ true
+      → triangle t r c ≡ triangle t s d → (r ≡ s) × (c ≡ d)
+  one-place r c s d lr lc ls ld er es e = (row, ⊎-elim (λ same. same) (λ ne. absurd (twice ne)) (same-or-not c d))
+    where
+      held : Side t r c s
+      held k l ne = let (j, lj, _, q) = holds-triangle t four s d (t .id r k) (subst (λ (xs : List ℕ). Among (t .id r k) xs) e (triangle-holds t four r c k (rw four at l) ne)) in (j, subst (λ (n : ℕ). j < n) (sym four) lj, q)
+
+      row : r ≡ s
+      row =
+          let one = skin-reads t inside r c .0 (and-second (inside r) (onSkin t inside r c) er) in
+          one .only r lr (and-first (inside r) (onSkin t inside r c) er, side-self t r c) ∙ sym (one .only s ls (and-first (inside s) (onSkin t inside s d) es, held))
+
+      twice : c ≢ d → ⊥
+      twice ne =
+          let (k, lk, stays, q) = holds-triangle t four s d (t .id r d) (subst (λ (xs : List ℕ). Among (t .id r d) xs) e (triangle-holds t four r c d ld (Ne·symm ne))) in
+          stays (one-corner t (closed .rising s ls) k d (subst (λ (n : ℕ). k < n) (sym four) lk) (rw four ld) (q ∙ ap (λ (x : ℕ). t .id x d) row))
+
+  -- no triangle of the skin list stands twice
+  pub skin-once : Distinct (skin t inside)
+  unfolding skin skinOf
+  skin-once =
+      subst (λ (xs : List (List ℕ)). Distinct xs) blocks
+      (gathered-once (4 * t .rows) (λ p. inside (p / 4) && onSkin t inside (p / 4) (p % 4)) (λ p. triangle t (p / 4) (p % 4)) (λ p q lp lq ep eq e.
+      let (row, corner) = one-place (p / 4) (p % 4) (q / 4) (q % 4) (row-below {m = 4} (lit< tt) (t .rows) p lp) (mod-lt p (lit< tt)) (row-below {m = 4} (lit< tt) (t .rows) q lq) (mod-lt q (lit< tt)) ep eq e in
+      omega (arith, div-add-mod p 4, div-add-mod q 4, row, corner)))
+    where
+      blocks : gather (4 * t .rows) (λ p. only (inside (p / 4) && onSkin t inside (p / 4) (p % 4)) (triangle t (p / 4) (p % 4)))
+          ≡ gather (t .rows) (λ r. gather (t .corners) (λ c. only (inside r && onSkin t inside r c) (triangle t r c)))
+      blocks =
+          gather-blocks 4 (t .rows) (λ p. only (inside (p / 4) && onSkin t inside (p / 4) (p % 4)) (triangle t (p / 4) (p % 4)))
+          ∙ gather-same (t .rows) (λ r. gather 4 (λ e. only (inside ((4 * r + e) / 4) && onSkin t inside ((4 * r + e) / 4) ((4 * r + e) % 4)) (triangle t ((4 * r + e) / 4) ((4 * r + e) % 4))))
+          (λ r. gather 4 (λ c. only (inside r && onSkin t inside r c) (triangle t r c))) (λ r _.
+          gather-same 4 (λ e. only (inside ((4 * r + e) / 4) && onSkin t inside ((4 * r + e) / 4) ((4 * r + e) % 4)) (triangle t ((4 * r + e) / 4) ((4 * r + e) % 4)))
+          (λ c. only (inside r && onSkin t inside r c) (triangle t r c)) (λ c l. rw (row-of {m = 4} (lit< tt) r c l, within-row {m = 4} (lit< tt) r c l)))
+          ∙ ap (λ (n : ℕ). gather (t .rows) (λ r. gather n (λ c. only (inside r && onSkin t inside r c) (triangle t r c)))) (sym four)
