@@ -1,0 +1,1 @@
+// The three demands as theorems over what `track::run` may give: specs/. There is no code here.
