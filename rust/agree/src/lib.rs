@@ -1,0 +1,89 @@
+//! Runs the proved engine and `plain` on the same job and compares the outcome
+//! and every byte and word of every lent buffer.
+
+use jobs::{Job, Lent};
+use std::fmt::Debug;
+use std::fs;
+use std::path::PathBuf;
+
+/// Compares jobs and counts what they came to.
+pub struct Comparer {
+    /// Where a job that the two disagree on is kept.
+    folder: PathBuf,
+    pub jobs: usize,
+    /// How often each code was given.
+    pub codes: [usize; 13],
+    /// How often each answer was given.
+    pub answers: [usize; 6],
+}
+
+impl Comparer {
+    pub fn new(folder: impl Into<PathBuf>) -> Comparer {
+        Comparer {
+            folder: folder.into(),
+            jobs: 0,
+            codes: [0; 13],
+            answers: [0; 6],
+        }
+    }
+
+    /// Runs both on copies of `lent` and panics if they disagree. `name` tells
+    /// the job in the message and names the file with its bytes.
+    pub fn compare(&mut self, name: &str, kind: &str, job: &[u8], lent: &Lent) {
+        let mut by_track = lent.clone();
+        let mut by_plain = lent.clone();
+        let track = track::run(
+            job,
+            &mut by_track.answers,
+            &mut by_track.final_marks,
+            &mut by_track.triangles,
+            &mut by_track.work,
+        );
+        let track = [track.code, track.place, track.taken, track.triangles];
+        let plain = by_plain.run_plain(job);
+        let plain = [plain.code, plain.place, plain.taken, plain.triangles];
+        let differences = [
+            first_difference("outcome", &track, &plain),
+            first_difference("answers", &by_track.answers, &by_plain.answers),
+            first_difference("final marks", &by_track.final_marks, &by_plain.final_marks),
+            first_difference("triangles", &by_track.triangles, &by_plain.triangles),
+            first_difference("work", &by_track.work, &by_plain.work),
+        ];
+        let differences: Vec<String> = differences.into_iter().flatten().collect();
+        if !differences.is_empty() {
+            let path = self.folder.join(format!("{name}.job"));
+            let kept = match fs::write(&path, job) {
+                Ok(()) => format!("job kept in {}", path.display()),
+                Err(error) => format!("job not kept: {error}"),
+            };
+            panic!(
+                "{name} ({kind}): code, place, taken, triangles are {track:?} by track and \
+                 {plain:?} by plain; {}; {kept}",
+                differences.join("; ")
+            );
+        }
+        self.jobs += 1;
+        self.codes[plain[0] as usize] += 1;
+        if plain[0] == 0 {
+            let proposals = Job::from_bytes(job).map_or(0, |job| job.proposals.len());
+            for &answer in &by_plain.answers[..proposals] {
+                self.answers[usize::from(answer)] += 1;
+            }
+        }
+    }
+
+    pub fn report(&self, title: &str) {
+        println!(
+            "{title}: {} jobs, codes {:?}, answers {:?}",
+            self.jobs, self.codes, self.answers
+        );
+    }
+}
+
+fn first_difference<T: PartialEq + Debug>(what: &str, track: &[T], plain: &[T]) -> Option<String> {
+    let at = track.iter().zip(plain).position(|(x, y)| x != y)?;
+    Some(format!(
+        "{what} {at} is {:?} by track and {:?} by plain",
+        track[at], plain[at]
+    ))
+}

@@ -1,0 +1,247 @@
+//! The proved engine against `plain`. AGREE_JOBS sets the number of random
+//! jobs and AGREE_SEED the number of the first.
+
+use agree::Comparer;
+use jobs::{cases, tables, Job, Lent, Random, Rooms, Table};
+use std::{env, fs, thread};
+
+const STORED: &str = concat!(env!("CARGO_MANIFEST_DIR"), "/../../jobs");
+
+/// Gives the engine stack to spare, whatever a test thread has.
+fn with_stack(test: impl FnOnce() + Send + 'static) {
+    let thread = thread::Builder::new().stack_size(8 << 20).spawn(test);
+    if let Err(panic) = thread.expect("a thread").join() {
+        std::panic::resume_unwind(panic);
+    }
+}
+
+fn comparer() -> Comparer {
+    Comparer::new(env!("CARGO_TARGET_TMPDIR"))
+}
+
+fn setting(name: &str, usual: u64) -> u64 {
+    match env::var(name) {
+        Ok(value) => value.parse().expect(name),
+        Err(_) => usual,
+    }
+}
+
+fn compare_case(comparer: &mut Comparer, number: u64, most: usize) {
+    let case = cases::case(number, most);
+    let lent = Lent::random(case.rooms, &mut Random::new(!number));
+    let name = format!("case-{number}-of-{most}");
+    comparer.compare(&name, &case.kind, &case.job, &lent);
+}
+
+#[test]
+fn random_jobs() {
+    with_stack(|| {
+        let count = setting("AGREE_JOBS", 20_000);
+        let first = setting("AGREE_SEED", 1);
+        let mut comparer = comparer();
+        for number in (first..).take(count as usize) {
+            let most = match number % 8 {
+                0..5 => 5 + number % 40,
+                5 | 6 => 45 + number % 56,
+                _ => 101 + number % 100,
+            };
+            compare_case(&mut comparer, number, most as usize);
+        }
+        comparer.report("random jobs");
+        if count >= 20_000 {
+            let Comparer { codes, answers, .. } = comparer;
+            assert!(codes.iter().all(|&given| given >= 100), "{codes:?}");
+            assert!(answers.iter().all(|&given| given >= 10_000), "{answers:?}");
+        }
+    });
+}
+
+#[test]
+fn large_jobs() {
+    with_stack(|| {
+        let rounds = setting("AGREE_JOBS", 20_000) / 1600;
+        let first = setting("AGREE_SEED", 1);
+        let mut comparer = comparer();
+        for number in (first..).take(rounds as usize) {
+            let random = &mut Random::new(number);
+            for (family, table) in tables::each_family(2048, random) {
+                let case = cases::case_on(family, &table, random);
+                let lent = Lent::random(case.rooms, random);
+                let name = format!("large-{number}-{}", family.replace(' ', "-"));
+                comparer.compare(&name, &case.kind, &case.job, &lent);
+            }
+        }
+        comparer.report("large jobs");
+        if rounds >= 12 {
+            let Comparer { codes, answers, .. } = comparer;
+            assert!(codes[0] >= 30, "{codes:?}");
+            assert!(answers.iter().all(|&given| given >= 100), "{answers:?}");
+        }
+    });
+}
+
+#[test]
+fn stored_jobs() {
+    with_stack(|| {
+        let mut comparer = comparer();
+        let random = &mut Random::new(2);
+        for entry in fs::read_dir(STORED).expect("the stored jobs") {
+            let path = entry.expect("an entry").path();
+            if path.extension().is_some_and(|ending| ending == "job") {
+                let job = fs::read(&path).expect("a stored job");
+                let lent = Lent::random(Rooms::exact(2049, 1025), random);
+                comparer.compare("stored", &path.display().to_string(), &job, &lent);
+            }
+        }
+        comparer.report("stored jobs");
+        assert_eq!(comparer.jobs, 16);
+    });
+}
+
+/// Jobs A and B with each length, and with each byte changed.
+#[test]
+fn every_length_and_byte() {
+    with_stack(|| {
+        let mut comparer = comparer();
+        let random = &mut Random::new(3);
+        for name in ["a", "b"] {
+            let job = fs::read(format!("{STORED}/{name}.job")).expect("a stored job");
+            let lent = Lent::random(Rooms::exact(13, 9), random);
+            for at in 0..job.len() {
+                comparer.compare("cut", name, &job[..at], &lent);
+                for change in 1..=255 {
+                    let mut changed = job.clone();
+                    changed[at] ^= change;
+                    comparer.compare("byte", name, &changed, &lent);
+                }
+            }
+            let mut longer = job.clone();
+            for _ in 0..40 {
+                longer.push(random.bits() as u8);
+                comparer.compare("longer", name, &longer, &lent);
+            }
+        }
+        comparer.report("every length and byte");
+    });
+}
+
+/// Well laid out jobs with each count at a limit, or one beyond it.
+#[test]
+fn every_limit() {
+    with_stack(|| {
+        let mut comparer = comparer();
+        let random = &mut Random::new(6);
+        let mut compare = |job: &Job| {
+            let rooms = Rooms::exact(job.rows.len(), job.proposals.len());
+            let kind = format!("{:?}", &job.header()[..3]);
+            comparer.compare("limit", &kind, &job.bytes(), &Lent::random(rooms, random));
+        };
+        let mut fewer = tables::simplex();
+        fewer.rows.pop();
+        compare(&fewer.job());
+        let tables = [
+            tables::simplex(),
+            tables::join_of_rings(23, 89),
+            tables::join_of_rings(32, 64),
+            tables::join_of_rings(3, 683),
+        ];
+        for table in &tables {
+            let mut job = table.job();
+            for ids in [4, 5, 1023, 1024, 1025] {
+                job.ids = ids;
+                compare(&job);
+            }
+            job.ids = 1024;
+            for proposals in [1, 1023, 1024, 1025] {
+                job.proposals = (0..proposals).map(|i| [i, 1 + i / 7 % 2]).collect();
+                compare(&job);
+            }
+        }
+        comparer.report("every limit");
+        assert_eq!(comparer.codes[0], 1 + 3 * (2 + 3));
+    });
+}
+
+/// Job A with each room for each buffer.
+#[test]
+fn every_room() {
+    with_stack(|| {
+        let mut comparer = comparer();
+        let random = &mut Random::new(4);
+        let job = fs::read(format!("{STORED}/a.job")).expect("a stored job");
+        let exact = Rooms::exact(5, 7);
+        let mut compare = |rooms: Rooms| {
+            let lent = Lent::random(rooms, random);
+            comparer.compare("room", &format!("{rooms:?}"), &job, &lent);
+        };
+        for room in 0..40 {
+            compare(Rooms {
+                answers: room,
+                ..exact
+            });
+            compare(Rooms {
+                final_marks: room,
+                ..exact
+            });
+            compare(Rooms {
+                triangles: room,
+                ..exact
+            });
+            compare(Rooms {
+                work: room,
+                ..exact
+            });
+        }
+        compare(Rooms::exact(0, 0));
+        comparer.report("every room");
+        assert_eq!(comparer.codes[4], 7 + 5 + 30 + 20 + 1);
+    });
+}
+
+/// Every marking of the finite rows of small tables, and from each clean one
+/// every single proposal.
+#[test]
+fn every_start_and_proposal() {
+    with_stack(|| {
+        let mut comparer = comparer();
+        let random = &mut Random::new(5);
+        let small = [
+            tables::simplex(),
+            tables::join_of_rings(3, 4),
+            tables::join_of_rings(4, 4),
+            tables::cyclic(6),
+            tables::cyclic(7),
+            tables::suspension(&tables::sphere(6, random)),
+            tables::flips(11, random),
+            tables::flips(13, random),
+        ];
+        for table in &small {
+            compare_starts(&mut comparer, &tables::relabelled(table, random), random);
+        }
+        comparer.report("every start and proposal");
+    });
+}
+
+fn compare_starts(comparer: &mut Comparer, table: &Table, random: &mut Random) {
+    let finite: Vec<usize> = (0..table.rows.len())
+        .filter(|&row| table.rows[row][0] != 0)
+        .collect();
+    for marking in 0..1_usize << finite.len() {
+        let mut job = table.job();
+        for (bit, &row) in finite.iter().enumerate() {
+            job.marks[row] = (marking >> bit & 1) as u8;
+        }
+        let lent = Lent::random(Rooms::exact(job.rows.len(), 1), random);
+        let clean_before = comparer.codes[0];
+        comparer.compare("start", "every start", &job.bytes(), &lent);
+        if comparer.codes[0] == clean_before {
+            continue;
+        }
+        for row in 0..table.rows.len() as u32 {
+            for kind in [1, 2] {
+                job.proposals = vec![[row, kind]];
+                comparer.compare("proposal", "every proposal", &job.bytes(), &lent);
+            }
+        }
+    }
+}

@@ -1,0 +1,38 @@
+//! Prints the text of a generated job.
+
+use jobs::{growth, tables, text, Random};
+use std::env;
+use std::process::ExitCode;
+
+const USAGE: &str = "generate_job FAMILY ROWS STEPS PROPOSALS SEED
+FAMILY is one of `tables::each_family`, and ROWS, at least 200, its most rows.
+The starting marks are what STEPS proposals left, from empty ones.";
+
+fn main() -> ExitCode {
+    let arguments: Vec<String> = env::args().skip(1).collect();
+    match generate(&arguments) {
+        Some(text) => {
+            print!("{text}");
+            ExitCode::SUCCESS
+        }
+        None => {
+            eprintln!("{USAGE}");
+            ExitCode::FAILURE
+        }
+    }
+}
+
+fn generate(arguments: &[String]) -> Option<String> {
+    let [family, rows, steps, proposals, seed] = arguments else {
+        return None;
+    };
+    let random = &mut Random::new(seed.parse().ok()?);
+    let most = rows.parse().ok().filter(|&rows| rows >= 200)?;
+    let mut tables = tables::each_family(most, random).into_iter();
+    let (_, table) = tables.find(|(name, _)| name == family)?;
+    let mut job = table.job();
+    job.marks = growth::grown_marks(&table, steps.parse().ok()?, random);
+    growth::propose(&mut job, proposals.parse().ok()?, 60, random);
+    let heading = format!("# generate_job {}\n", arguments.join(" "));
+    Some(heading + &text::from_job(&job))
+}

@@ -1,0 +1,299 @@
+//! Random jobs of every sort, with the room lent for them.
+
+use crate::growth::{full_marks, grown_marks, propose, random_marks};
+use crate::{tables, Job, Random, Rooms, Table};
+
+/// A job and the lengths of the buffers lent for it.
+#[derive(Clone, Debug)]
+pub struct Case {
+    /// What it was made from, for messages.
+    pub kind: String,
+    pub job: Vec<u8>,
+    pub rooms: Rooms,
+}
+
+/// The case of this number, on a table of at most about `most` rows.
+pub fn case(number: u64, most: usize) -> Case {
+    let random = &mut Random::new(number);
+    let (family, table) = tables::any(most, random);
+    case_on(family, &table, random)
+}
+
+/// A case on this table, which is closed.
+pub fn case_on(family: &str, table: &Table, random: &mut Random) -> Case {
+    let mut kind = format!("{family}, {} rows", table.rows.len());
+    let (start, marks) = start_marks(table, random);
+    kind += &format!(", {start}");
+    let mut job = table.job();
+    job.marks = marks;
+    if random.chance(10) {
+        job.ids = (job.ids + random.within(1, 20) as u32).min(1024);
+    }
+    let proposals = match random.below(4) {
+        0 => random.below(8),
+        1 => random.below(64),
+        _ => random.below((3 * table.rows.len()).min(1024) + 1),
+    };
+    let adds = random.pick(&[10, 30, 50, 70, 90]);
+    propose(&mut job, proposals, adds, random);
+
+    if random.chance(45) {
+        for _ in 0..random.pick(&[1, 1, 1, 2]) {
+            kind += &format!(", {}", damage(&mut job, random));
+        }
+    }
+    let mut rooms = Rooms::exact(job.rows.len(), job.proposals.len());
+    let mut bytes = job.bytes();
+    if random.chance(10) {
+        kind += &format!(", {}", damage_bytes(&mut bytes, random));
+    }
+    kind += &format!(", {}", vary(&mut rooms, random));
+    Case {
+        kind,
+        job: bytes,
+        rooms,
+    }
+}
+
+fn start_marks(table: &Table, random: &mut Random) -> (&'static str, Vec<u8>) {
+    let rows = table.rows.len();
+    let grown = |random: &mut Random| {
+        let steps = random.within(1, 2 * rows);
+        grown_marks(table, steps, random)
+    };
+    match random.below(20) {
+        0..6 => ("empty", vec![0; rows]),
+        6..14 => ("grown", grown(random)),
+        14..16 => ("full", full_marks(table)),
+        16 | 17 => {
+            let mut marks = grown(random);
+            for _ in 0..random.within(1, 3) {
+                let row = random.below(rows);
+                if table.rows[row][0] != 0 {
+                    marks[row] ^= 1;
+                }
+            }
+            ("grown with some turned", marks)
+        }
+        18 => {
+            let mut marks = full_marks(table);
+            for _ in 0..random.within(1, 3) {
+                let row = random.below(rows);
+                marks[row] = 0;
+            }
+            ("full but for some", marks)
+        }
+        _ => {
+            let percent = random.below(101);
+            ("random", random_marks(table, percent, random))
+        }
+    }
+}
+
+/// Changes what the job says; the layout stays right.
+fn damage(job: &mut Job, random: &mut Random) -> &'static str {
+    let rows = job.rows.len();
+    if rows < 2 {
+        return "not damaged";
+    }
+    let row = random.below(rows);
+    match random.below(16) {
+        0 | 1 => {
+            let corner = random.below(4);
+            job.rows[row][corner] = match random.below(7) {
+                0 => job.rows[row][(corner + 1) % 4],
+                1 => job.ids,
+                2 => job.ids + random.below(2000) as u32,
+                3 => u32::MAX,
+                4 => random.bits() as u32,
+                5 => job.rows[row][corner] | 1 << random.within(10, 31),
+                _ => random.below(job.ids as usize) as u32,
+            };
+            "an id changed"
+        }
+        2 => {
+            let corners = [random.below(4), random.below(4)];
+            job.rows[row].swap(corners[0], corners[1]);
+            "two ids of a row exchanged"
+        }
+        3 => {
+            let other = if random.chance(50) && row > 0 {
+                row - 1
+            } else {
+                random.below(rows)
+            };
+            job.rows.swap(row, other);
+            "two rows exchanged"
+        }
+        4 => {
+            job.rows[row] = random.pick(&job.rows);
+            "a row doubled"
+        }
+        5 => {
+            job.rows.remove(row);
+            job.marks.remove(row);
+            "a row removed"
+        }
+        6 => {
+            job.rows.insert(row, random_row(job.ids, random));
+            job.marks.insert(row, 0);
+            job.rows.sort_unstable();
+            "a row put in"
+        }
+        7 => {
+            job.rows[row] = random_row(job.ids, random);
+            job.rows.sort_unstable();
+            "a row replaced"
+        }
+        8 => {
+            job.ids = job.ids.saturating_sub(random.within(1, 3) as u32);
+            "fewer ids"
+        }
+        9 | 10 => {
+            for _ in 0..random.pick(&[1, 1, 2, 5]) {
+                let row = random.below(rows);
+                job.marks[row] = random.pick(&[2, 3, 127, 128, 254, 255]);
+            }
+            "odd marks"
+        }
+        11 => {
+            for _ in 0..random.pick(&[1, 1, 2, 5]) {
+                let row = random.below(rows);
+                job.marks[row] = 1;
+            }
+            "some rows marked, outer ones too"
+        }
+        12 | 13 => identify(job, random),
+        _ => glue(job, random),
+    }
+}
+
+fn random_row(ids: u32, random: &mut Random) -> [u32; 4] {
+    loop {
+        let mut row = [(); 4].map(|()| random.below(ids.max(5) as usize) as u32);
+        row.sort_unstable();
+        if row.is_sorted_by(|a, b| a < b) {
+            return row;
+        }
+    }
+}
+
+/// Makes one id of two that no row holds both of: where their links have
+/// nothing, ids, or edges in common, the vertex, edge or triangle rule breaks.
+fn identify(job: &mut Job, random: &mut Random) -> &'static str {
+    let table = Table {
+        ids: job.ids,
+        rows: job.rows.clone(),
+    };
+    for _ in 0..20 {
+        let pair = [(); 2].map(|()| random.below(job.ids as usize) as u32);
+        if pair[0] == pair[1] {
+            continue;
+        }
+        if let Some(merged) = tables::identified(&table, &[pair]) {
+            job.rows = merged.rows;
+            return "two ids made one";
+        }
+    }
+    "no two ids to make one"
+}
+
+/// Puts a second table beside the first, with one, two or three ids in common,
+/// or none.
+fn glue(job: &mut Job, random: &mut Random) -> &'static str {
+    let first = Table {
+        ids: job.ids,
+        rows: job.rows.clone(),
+    };
+    let (_, second) = tables::any(job.rows.len().max(5), random);
+    let shared = random.pick(&[0, 1, 1, 1, 2, 2, 2, 3]);
+    match tables::glued(&first, &second, shared, random) {
+        Some(both) if both.rows.len() <= 2048 && both.ids <= 1024 => {
+            let both = if random.chance(50) {
+                tables::relabelled(&both, random)
+            } else {
+                both
+            };
+            job.ids = both.ids;
+            job.rows = both.rows;
+            job.marks = vec![0; job.rows.len()];
+            "a second table glued on"
+        }
+        _ => "no second table glued on",
+    }
+}
+
+/// Changes the header, the length or any byte.
+fn damage_bytes(bytes: &mut Vec<u8>, random: &mut Random) -> &'static str {
+    match random.below(9) {
+        0..3 => {
+            let at = 4 * random.below(8);
+            let word = u32::from_le_bytes([bytes[at], bytes[at + 1], bytes[at + 2], bytes[at + 3]]);
+            let changed = match random.below(8) {
+                0 => word.wrapping_add(1),
+                1 => word.wrapping_sub(1),
+                2 => random.pick(&[0, 4, 5, 1024, 1025, 2048, 2049]),
+                3 => u32::MAX,
+                4 => word ^ 1 << random.below(32),
+                5 => word.wrapping_add(1 << random.within(8, 31)),
+                6 => random.bits() as u32,
+                _ => random.below(4000) as u32,
+            };
+            bytes[at..at + 4].copy_from_slice(&changed.to_le_bytes());
+            "a header word changed"
+        }
+        3 => {
+            bytes.truncate(random.below(bytes.len()));
+            "cut"
+        }
+        4 => {
+            bytes.truncate(random.below(34));
+            "cut within the header"
+        }
+        5 => {
+            let less = random.below(20).min(bytes.len());
+            bytes.truncate(bytes.len() - less);
+            "cut a little"
+        }
+        6 => {
+            for _ in 0..random.within(1, 40) {
+                bytes.push(random.bits() as u8);
+            }
+            "extended"
+        }
+        _ => {
+            let at = random.below(bytes.len());
+            bytes[at] = random.bits() as u8;
+            "a byte changed"
+        }
+    }
+}
+
+/// Lends more than enough, just enough, or too little.
+fn vary(rooms: &mut Rooms, random: &mut Random) -> &'static str {
+    let Rooms {
+        answers,
+        final_marks,
+        triangles,
+        work,
+    } = rooms;
+    let mut all = [answers, final_marks, triangles, work];
+    match random.below(20) {
+        0..8 => "room exact",
+        8 => {
+            let room = &mut *all[random.below(4)];
+            *room = match random.below(4) {
+                0 => 0,
+                1 => random.below(*room + 1),
+                _ => room.saturating_sub(1),
+            };
+            "room short"
+        }
+        _ => {
+            for room in &mut all {
+                **room += random.below(10);
+            }
+            "room to spare"
+        }
+    }
+}

@@ -1,0 +1,14 @@
+//! Track jobs: their bytes, their text form, and generated ones for tests and
+//! benchmarks.
+
+pub mod cases;
+pub mod growth;
+mod job;
+mod lent;
+mod random;
+pub mod tables;
+pub mod text;
+
+pub use job::{Job, Table};
+pub use lent::{Lent, Rooms};
+pub use random::Random;

@@ -1,0 +1,103 @@
+//! The stored jobs: their bytes are what their text makes, and their expected
+//! listings are what `plain` gives.
+
+use jobs::text;
+use std::fs;
+use std::path::{Path, PathBuf};
+
+const FOLDER: &str = concat!(env!("CARGO_MANIFEST_DIR"), "/../../jobs");
+
+const NAMES: [&str; 16] = [
+    "a", "b", "c", "cut", "d", "e", "f", "g", "h", "i", "j", "largest", "n2049", "n4", "short31",
+    "v6",
+];
+
+fn path(name: &str, ending: &str) -> PathBuf {
+    Path::new(FOLDER).join(format!("{name}.{ending}"))
+}
+
+fn read(name: &str, ending: &str) -> Vec<u8> {
+    let path = path(name, ending);
+    fs::read(&path).unwrap_or_else(|error| panic!("{}: {error}", path.display()))
+}
+
+fn read_text(name: &str, ending: &str) -> String {
+    String::from_utf8(read(name, ending)).expect("text")
+}
+
+#[test]
+fn folder_holds_these_jobs() {
+    for ending in ["txt", "job", "out"] {
+        let mut names: Vec<String> = fs::read_dir(FOLDER)
+            .expect("the folder of stored jobs")
+            .map(|entry| entry.expect("an entry").path())
+            .filter(|path| path.extension().is_some_and(|other| other == ending))
+            .filter_map(|path| Some(path.file_stem()?.to_str()?.to_string()))
+            .collect();
+        names.sort();
+        assert_eq!(names, NAMES, "{ending}");
+    }
+}
+
+#[test]
+fn bytes_are_what_the_text_makes() {
+    for name in NAMES {
+        let bytes = text::to_bytes(&read_text(name, "txt")).expect(name);
+        assert!(bytes == read(name, "job"), "{name}");
+    }
+}
+
+#[test]
+fn text_of_the_bytes_makes_them_again() {
+    for name in NAMES {
+        let bytes = read(name, "job");
+        match text::from_bytes(&bytes) {
+            Some(text) => assert!(text::to_bytes(&text).expect(name) == bytes, "{name}"),
+            None => assert!(["cut", "short31"].contains(&name), "{name}"),
+        }
+    }
+}
+
+#[test]
+fn listings_are_what_plain_gives() {
+    for name in NAMES {
+        let listing = plain::listing(&read(name, "job"));
+        assert!(listing == read_text(name, "out"), "{name}");
+    }
+}
+
+#[test]
+fn listings_begin_as_document_01_says() {
+    for (name, first) in [
+        ("a", "done 7 3 4"),
+        ("b", "done 7 5 8"),
+        ("c", "refused 12 1"),
+        ("cut", "refused 3 0"),
+        ("d", "refused 10 3"),
+        ("e", "refused 11 0"),
+        ("f", "done 0 0 0"),
+        ("g", "refused 5 4"),
+        ("h", "refused 6 4"),
+        ("i", "refused 8 0"),
+        ("j", "refused 9 0"),
+        ("n2049", "refused 2 0"),
+        ("n4", "refused 2 0"),
+        ("short31", "refused 1 0"),
+        ("v6", "done 7 3 4"),
+    ] {
+        assert_eq!(read_text(name, "out").lines().next(), Some(first), "{name}");
+    }
+    assert_eq!(read("a", "out"), read("v6", "out"));
+}
+
+#[test]
+fn largest_is_as_large_as_a_job_may_be() {
+    let job = jobs::Job::from_bytes(&read("largest", "job")).expect("a layout");
+    assert_eq!((job.rows.len(), job.proposals.len()), (2048, 1024));
+    let listing = read_text("largest", "out");
+    for answer in 0..=5 {
+        let ending = format!(" {answer}");
+        let given = |line: &str| line.starts_with("p ") && line.ends_with(&ending);
+        assert!(listing.lines().any(given), "answer {answer}");
+    }
+}

@@ -1,0 +1,102 @@
+//! Every generated table is closed.
+
+use jobs::{tables, Lent, Random, Rooms, Table};
+
+fn assert_closed(name: &str, table: &Table) {
+    let mut lent = Lent::zeros(Rooms::exact(table.rows.len(), 0));
+    let outcome = lent.run_plain(&table.job().bytes());
+    assert_eq!(
+        (outcome.code, outcome.place),
+        (0, 0),
+        "{name}: {} ids, {} rows",
+        table.ids,
+        table.rows.len()
+    );
+}
+
+#[test]
+fn small_ones_of_any_family() {
+    let random = &mut Random::new(1);
+    for number in 0..2000 {
+        let (name, table) = tables::any(5 + number / 8, random);
+        assert_closed(name, &table);
+    }
+}
+
+#[test]
+fn large_ones_of_any_family() {
+    let random = &mut Random::new(2);
+    for _ in 0..40 {
+        let (name, table) = tables::any(2048, random);
+        assert_closed(name, &table);
+    }
+}
+
+#[test]
+fn each_family_near_a_number_of_rows() {
+    let random = &mut Random::new(3);
+    for most in [200, 501, 1000, 2043, 2048] {
+        for (name, table) in tables::each_family(most, random) {
+            let rows = table.rows.len();
+            assert!((most * 3 / 4..=most).contains(&rows), "{name}: {rows}");
+            assert_closed(name, &table);
+            assert_closed(name, &tables::with_few_outer(&table));
+        }
+    }
+}
+
+#[test]
+fn largest_of_some_families() {
+    let random = &mut Random::new(4);
+    for (name, rows, table) in [
+        ("flips", 2048, tables::flips(2048, random)),
+        ("join of rings", 2048, tables::join_of_rings(32, 64)),
+        ("join of rings", 2046, tables::join_of_rings(3, 682)),
+        ("cyclic", 2015, tables::cyclic(65)),
+        (
+            "suspension of a sphere",
+            2048,
+            tables::suspension(&tables::sphere(1024, random)),
+        ),
+        (
+            "suspension of a torus",
+            2048,
+            tables::suspension(&tables::torus_grid(16, 32)),
+        ),
+        ("torus of cubes", 2016, tables::torus_of_cubes([6, 7, 8])),
+    ] {
+        assert_eq!(table.rows.len(), rows, "{name}");
+        assert_closed(name, &table);
+    }
+}
+
+#[test]
+fn smallest_of_each_family() {
+    let random = &mut Random::new(5);
+    let seven = tables::torus_of_seven(14, random);
+    let six = tables::projective_plane(10, random);
+    for (name, rows, table) in [
+        ("simplex", 5, tables::simplex()),
+        ("delaunay", 5, tables::delaunay(5, random)),
+        ("flips", 5, tables::flips(5, random)),
+        ("flips", 9, tables::flips(9, random)),
+        ("join of rings", 9, tables::join_of_rings(3, 3)),
+        ("cyclic", 9, tables::cyclic(6)),
+        (
+            "suspension of a sphere",
+            8,
+            tables::suspension(&tables::sphere(4, random)),
+        ),
+        (
+            "suspension of a torus",
+            36,
+            tables::suspension(&tables::torus_grid(3, 3)),
+        ),
+        ("suspension of a torus", 28, tables::suspension(&seven)),
+        ("suspension of a plane", 20, tables::suspension(&six)),
+        ("torus of cubes", 162, tables::torus_of_cubes([3, 3, 3])),
+    ] {
+        assert_eq!(table.rows.len(), rows, "{name}");
+        assert_closed(name, &table);
+    }
+}

@@ -1,0 +1,69 @@
+//! Proposals and the five cases.
+
+use crate::header::word;
+use crate::table::{round_edge, Table, EDGES};
+
+/// Answers each proposal on the marks then standing and changes the marks of
+/// those taken. Returns how many were taken.
+pub(crate) fn run_proposals(
+    table: &Table,
+    marks: &mut [u8],
+    proposals: &[u8],
+    answers: &mut [u8],
+) -> u32 {
+    let mut taken = 0;
+    for (proposal, answer) in proposals.chunks_exact(8).zip(answers) {
+        let (row, kind) = (word(proposal), word(&proposal[4..]));
+        *answer = judge(table, marks, row, kind);
+        if *answer == 0 {
+            marks[row as usize] ^= 1;
+            taken += 1;
+        }
+    }
+    taken
+}
+
+fn judge(table: &Table, marks: &[u8], row: u32, kind: u32) -> u8 {
+    let row = row as usize;
+    if row >= marks.len() {
+        return 1;
+    }
+    // The mark that the row must have, to be added or to be removed.
+    let before = match kind {
+        1 => 0,
+        2 => 1,
+        _ => return 2,
+    };
+    if table.rows[row][0] == 0 {
+        return 3;
+    }
+    if marks[row] != before {
+        return 4;
+    }
+    if passes(table, marks, row) {
+        0
+    } else {
+        5
+    }
+}
+
+/// The five cases. The other side is the rows whose mark differs from this
+/// row's: the inside rows for an add, the outside rows for a remove.
+fn passes(table: &Table, marks: &[u8], row: usize) -> bool {
+    let other = |r: usize| marks[r] != marks[row];
+    let free_corner = |corner: usize| {
+        let id = usize::from(table.rows[row][corner]);
+        !table.corners.at(id).iter().any(|&r| other(usize::from(r)))
+    };
+    let on_skin = table.neighbours[row].map(|across| other(across as usize));
+    match on_skin.iter().filter(|&&skin| skin).count() {
+        0 => (0..4).all(free_corner),
+        1 => (0..4).all(|corner| !on_skin[corner] || free_corner(corner)),
+        // The edge in neither triangle joins the two left-out corners.
+        2 => EDGES
+            .iter()
+            .filter(|edge| on_skin[edge[0]] && on_skin[edge[1]])
+            .all(|edge| !round_edge(table.rows, table.neighbours, row, edge).any(other)),
+        _ => true,
+    }
+}

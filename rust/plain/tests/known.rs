@@ -1,0 +1,350 @@
+//! The jobs of document 01 with their whole results. Every buffer is lent one
+//! longer than needed and filled with 9s.
+
+use plain::Outcome;
+
+#[derive(Clone)]
+struct Job {
+    ids: u32,
+    rows: Vec<[u32; 4]>,
+    marks: Vec<u8>,
+    proposals: Vec<[u32; 2]>,
+}
+
+impl Job {
+    fn bytes(&self) -> Vec<u8> {
+        let [n, p] = [self.rows.len() as u32, self.proposals.len() as u32];
+        let header = [
+            self.ids,
+            n,
+            p,
+            32,
+            32 + 16 * n,
+            32 + 17 * n,
+            32 + 17 * n + 8 * p,
+            0,
+        ];
+        let mut bytes: Vec<u8> = words(&header);
+        bytes.extend(self.rows.iter().flat_map(|row| words(row)));
+        bytes.extend(&self.marks);
+        bytes.extend(self.proposals.iter().flat_map(|pair| words(pair)));
+        bytes
+    }
+
+    fn inside(mut self, rows: &[usize]) -> Job {
+        for &row in rows {
+            self.marks[row] = 1;
+        }
+        self
+    }
+}
+
+fn words(words: &[u32]) -> Vec<u8> {
+    words.iter().flat_map(|word| word.to_le_bytes()).collect()
+}
+
+fn job_a() -> Job {
+    Job {
+        ids: 5,
+        rows: vec![
+            [0, 1, 2, 3],
+            [0, 1, 2, 4],
+            [0, 1, 3, 4],
+            [0, 2, 3, 4],
+            [1, 2, 3, 4],
+        ],
+        marks: vec![0; 5],
+        proposals: vec![[4, 1], [4, 1], [0, 1], [4, 2], [4, 3], [5, 1], [4, 1]],
+    }
+}
+
+const NEIGHBOURS_A: [u32; 20] = [4, 3, 2, 1, 4, 3, 2, 0, 4, 3, 1, 0, 4, 2, 1, 0, 3, 2, 1, 0];
+
+fn job_b() -> Job {
+    let mut rows = Vec::new();
+    for [a, b] in [[0, 1], [0, 2], [1, 2]] {
+        for [c, d] in [[3, 4], [3, 6], [4, 5], [5, 6]] {
+            rows.push([a, b, c, d]);
+        }
+    }
+    Job {
+        ids: 7,
+        rows,
+        marks: vec![0; 12],
+        proposals: vec![[8, 1], [11, 1], [10, 1], [11, 1], [9, 1], [8, 2], [11, 2]],
+    }
+}
+
+/// Two copies of A's table; the second has `second` in place of 0 1 2 3 4.
+fn twice_a(ids: u32, second: [u32; 5]) -> Job {
+    let a = job_a();
+    let copy = a.rows.iter().map(|row| row.map(|id| second[id as usize]));
+    let mut rows: Vec<[u32; 4]> = a.rows.iter().copied().chain(copy).collect();
+    rows.sort();
+    Job {
+        ids,
+        rows,
+        marks: vec![0; 10],
+        proposals: vec![],
+    }
+}
+
+/// The four buffers as lent.
+#[derive(Clone, Debug, PartialEq)]
+struct Lent {
+    answers: Vec<u8>,
+    final_marks: Vec<u8>,
+    triangles: Vec<u32>,
+    work: Vec<u32>,
+}
+
+impl Lent {
+    fn nines(n: usize, p: usize) -> Lent {
+        Lent {
+            answers: vec![9; p + 1],
+            final_marks: vec![9; n + 1],
+            triangles: vec![9; 6 * n + 1],
+            work: vec![9; 4 * n + 1],
+        }
+    }
+
+    fn of(job: &Job) -> Lent {
+        Lent::nines(job.rows.len(), job.proposals.len())
+    }
+
+    fn run(&mut self, bytes: &[u8]) -> Outcome {
+        plain::run(
+            bytes,
+            &mut self.answers,
+            &mut self.final_marks,
+            &mut self.triangles,
+            &mut self.work,
+        )
+    }
+}
+
+fn refused(code: u32, place: u32) -> Outcome {
+    Outcome {
+        code,
+        place,
+        taken: 0,
+        triangles: 0,
+    }
+}
+
+/// Runs a job that is refused by its header or for want of room.
+fn refused_early(bytes: &[u8], lent: &Lent, code: u32) {
+    let mut left = lent.clone();
+    assert_eq!(left.run(bytes), refused(code, 0));
+    assert_eq!(left, *lent);
+}
+
+/// Runs a job that is refused by its table or its marks.
+fn refused_late(job: &Job, code: u32, place: u32) {
+    let mut left = Lent::of(job);
+    let mut expected = left.clone();
+    expected.work[..4 * job.rows.len()].fill(0);
+    assert_eq!(left.run(&job.bytes()), refused(code, place));
+    assert_eq!(left, expected);
+}
+
+/// Runs a job that is not refused.
+fn done(job: &Job, answers: &[u8], marks: &[u8], skin: &[[u32; 3]], neighbours: &[u32]) {
+    let mut left = Lent::of(job);
+    let mut expected = left.clone();
+    expected.answers[..answers.len()].copy_from_slice(answers);
+    expected.final_marks[..marks.len()].copy_from_slice(marks);
+    expected.triangles[..3 * skin.len()].copy_from_slice(skin.as_flattened());
+    expected.work[..neighbours.len()].copy_from_slice(neighbours);
+    let outcome = Outcome {
+        code: 0,
+        place: 0,
+        taken: answers.iter().filter(|&&answer| answer == 0).count() as u32,
+        triangles: skin.len() as u32,
+    };
+    assert_eq!(left.run(&job.bytes()), outcome);
+    assert_eq!(left, expected);
+}
+
+fn done_as_a(job: &Job) {
+    done(
+        job,
+        &[0, 4, 3, 0, 2, 1, 0],
+        &[0, 0, 0, 0, 1],
+        &[[2, 3, 4], [1, 3, 4], [1, 2, 4], [1, 2, 3]],
+        &NEIGHBOURS_A,
+    );
+}
+
+#[test]
+fn case_a() {
+    done_as_a(&job_a());
+}
+
+#[test]
+fn case_b() {
+    let mut neighbours = Vec::new();
+    for (e, [out_low, out_high]) in [[2, 1], [2, 0], [1, 0]].into_iter().enumerate() {
+        for (f, [low, high]) in [[2, 1], [3, 0], [3, 0], [1, 2]].into_iter().enumerate() {
+            let (e, f) = (e as u32, f as u32);
+            neighbours.extend([4 * out_low + f, 4 * out_high + f, 4 * e + low, 4 * e + high]);
+        }
+    }
+    done(
+        &job_b(),
+        &[0, 5, 0, 0, 0, 0, 5],
+        &[0, 0, 0, 0, 0, 0, 0, 0, 0, 1, 1, 1],
+        &[
+            [2, 3, 6],
+            [1, 3, 6],
+            [1, 2, 3],
+            [2, 4, 5],
+            [1, 4, 5],
+            [1, 2, 4],
+            [2, 5, 6],
+            [1, 5, 6],
+        ],
+        &neighbours,
+    );
+}
+
+#[test]
+fn case_c() {
+    refused_late(&job_b().inside(&[8, 11]), 12, 1);
+}
+
+#[test]
+fn case_d() {
+    let mut job = job_a();
+    job.marks[3] = 2;
+    refused_late(&job, 10, 3);
+}
+
+#[test]
+fn case_e() {
+    refused_late(&job_a().inside(&[0]), 11, 0);
+}
+
+#[test]
+fn case_f() {
+    let mut job = job_a();
+    job.proposals.clear();
+    done(&job, &[], &[0; 5], &[], &NEIGHBOURS_A);
+}
+
+#[test]
+fn case_g() {
+    let mut job = job_a();
+    job.rows[4] = [1, 2, 3, 3];
+    refused_late(&job, 5, 4);
+}
+
+#[test]
+fn case_h() {
+    let mut job = job_a();
+    job.rows[4] = job.rows[3];
+    refused_late(&job, 6, 4);
+}
+
+#[test]
+fn case_i() {
+    refused_late(&twice_a(8, [0, 1, 5, 6, 7]), 8, 0);
+}
+
+#[test]
+fn case_j() {
+    refused_late(&twice_a(9, [0, 5, 6, 7, 8]), 9, 0);
+}
+
+#[test]
+fn rows_outside_their_limits() {
+    let mut job = job_a();
+    job.rows.pop();
+    job.marks.pop();
+    refused_early(&job.bytes(), &Lent::of(&job), 2);
+    job.rows = vec![[0, 1, 2, 3]; 2049];
+    job.marks = vec![0; 2049];
+    refused_early(&job.bytes(), &Lent::of(&job), 2);
+}
+
+#[test]
+fn thirty_one_bytes() {
+    refused_early(&job_a().bytes()[..31], &Lent::of(&job_a()), 1);
+    refused_early(&[], &Lent::of(&job_a()), 1);
+}
+
+#[test]
+fn cut_by_a_byte() {
+    let bytes = job_a().bytes();
+    refused_early(&bytes[..bytes.len() - 1], &Lent::of(&job_a()), 3);
+}
+
+#[test]
+fn six_ids() {
+    let mut job = job_a();
+    job.ids = 6;
+    done_as_a(&job);
+}
+
+#[test]
+fn room_short_by_one() {
+    let bytes = job_a().bytes();
+    let exact = Lent {
+        answers: vec![9; 7],
+        final_marks: vec![9; 5],
+        triangles: vec![9; 30],
+        work: vec![9; 20],
+    };
+    assert_eq!(exact.clone().run(&bytes).code, 0);
+    let mut lent = exact.clone();
+    lent.answers.pop();
+    refused_early(&bytes, &lent, 4);
+    lent = exact.clone();
+    lent.final_marks.pop();
+    refused_early(&bytes, &lent, 4);
+    lent = exact.clone();
+    lent.triangles.pop();
+    refused_early(&bytes, &lent, 4);
+    lent = exact.clone();
+    lent.work.pop();
+    refused_early(&bytes, &lent, 4);
+}
+
+#[test]
+fn earlier_codes_decide() {
+    // A row out of order stands before one whose ids don't rise.
+    let mut job = job_a();
+    job.rows[1] = job.rows[0];
+    job.rows[4] = [1, 2, 3, 3];
+    refused_late(&job, 5, 4);
+    // A bad mark stands after an outer row marked inside.
+    let mut job = job_a().inside(&[0]);
+    job.marks[4] = 255;
+    refused_late(&job, 10, 4);
+}
+
+#[test]
+fn timed_run_gives_the_same() {
+    let job = job_b();
+    let (mut timed, mut untimed) = (Lent::of(&job), Lent::of(&job));
+    let mut stages = plain::Stages::default();
+    let outcome = plain::run_timed(
+        &job.bytes(),
+        &mut timed.answers,
+        &mut timed.final_marks,
+        &mut timed.triangles,
+        &mut timed.work,
+        &mut stages,
+    );
+    assert_eq!(outcome, untimed.run(&job.bytes()));
+    assert_eq!(timed, untimed);
+    assert!(!stages.neighbours.is_zero());
+}
+
+#[test]
+fn listing_of_a() {
+    let lines = "done 7 3 4\np 0 0\np 1 4\np 2 3\np 3 0\np 4 2\np 5 1\np 6 0\n\
+                 t 2 3 4\nt 1 3 4\nt 1 2 4\nt 1 2 3\n";
+    assert_eq!(plain::listing(&job_a().bytes()), lines);
+    assert_eq!(plain::listing(&[0; 31]), "refused 1 0\n");
+}

@@ -1,0 +1,163 @@
+//! The slow engine against `plain` on small jobs: outcome and every byte and
+//! word of every buffer. AGREE_JOBS sets the number of random jobs and
+//! AGREE_SEED the number of the first.
+
+use jobs::{cases, growth, tables, Job, Lent, Random, Rooms, Table};
+
+/// Runs both on the same buffers, requires the same results, and returns them.
+fn agree(kind: &str, job: &[u8], lent: Lent) -> ([u32; 4], Lent) {
+    let mut by_plain = lent.clone();
+    let mut by_slow = lent;
+    let plain = by_plain.run_plain(job);
+    let plain = [plain.code, plain.place, plain.taken, plain.triangles];
+    let slow = slow::run(
+        job,
+        &mut by_slow.answers,
+        &mut by_slow.final_marks,
+        &mut by_slow.triangles,
+        &mut by_slow.work,
+    );
+    assert_eq!(plain, slow, "{kind}");
+    assert!(by_plain == by_slow, "{kind}: buffers");
+    (slow, by_slow)
+}
+
+fn setting(name: &str, usual: u64) -> u64 {
+    match std::env::var(name) {
+        Ok(value) => value.parse().expect(name),
+        Err(_) => usual,
+    }
+}
+
+#[test]
+fn random_jobs() {
+    let mut codes = [0; 13];
+    let mut answers = [0; 6];
+    let count = setting("AGREE_JOBS", 6000);
+    let first = setting("AGREE_SEED", 1);
+    for number in (first..).take(count as usize) {
+        let most = 5 + (number % 36) as usize;
+        let case = cases::case(number, most);
+        let lent = Lent::random(case.rooms, &mut Random::new(!number));
+        let kind = format!("case {number} of {most}: {}", case.kind);
+        let (outcome, lent) = agree(&kind, &case.job, lent);
+        codes[outcome[0] as usize] += 1;
+        if outcome[0] == 0 {
+            let p = Job::from_bytes(&case.job)
+                .expect("a layout")
+                .proposals
+                .len();
+            for &answer in &lent.answers[..p] {
+                answers[answer as usize] += 1;
+            }
+        }
+    }
+    println!("codes {codes:?}\nanswers {answers:?}");
+    if count >= 6000 {
+        assert!(codes.iter().all(|&given| given >= 20), "{codes:?}");
+        assert!(answers.iter().all(|&given| given >= 1000), "{answers:?}");
+    }
+}
+
+/// Small tables with few finite rows.
+fn small_tables() -> Vec<Table> {
+    let random = &mut Random::new(5);
+    let mut small = vec![tables::simplex(), tables::join_of_rings(3, 4)];
+    let more = [
+        tables::join_of_rings(4, 4),
+        tables::cyclic(6),
+        tables::cyclic(7),
+        tables::suspension(&tables::sphere(6, random)),
+        tables::flips(11, random),
+        tables::flips(13, random),
+    ];
+    for table in &more {
+        small.push(tables::relabelled(table, random));
+    }
+    small
+}
+
+/// Every marking of the finite rows of small tables.
+#[test]
+fn every_start() {
+    for table in small_tables() {
+        let finite: Vec<usize> = (0..table.rows.len())
+            .filter(|&r| table.rows[r][0] != 0)
+            .collect();
+        assert!(finite.len() <= 10, "{}", finite.len());
+        for marking in 0..1 << finite.len() {
+            let mut job = table.job();
+            for (bit, &row) in finite.iter().enumerate() {
+                job.marks[row] = (marking >> bit & 1) as u8;
+            }
+            let lent = Lent::zeros(Rooms::exact(job.rows.len(), 0));
+            agree("every start", &job.bytes(), lent);
+        }
+    }
+}
+
+/// Each byte of jobs A and B changed, and each length.
+#[test]
+fn every_byte_and_length() {
+    for name in ["a", "b"] {
+        let folder = concat!(env!("CARGO_MANIFEST_DIR"), "/../../jobs");
+        let bytes = std::fs::read(format!("{folder}/{name}.job")).expect("a stored job");
+        let random = &mut Random::new(6);
+        let lent = Lent::random(Rooms::exact(13, 9), random);
+        for at in 0..bytes.len() {
+            for change in [1, 2, 3, 4, 8, 128, 255] {
+                let mut changed = bytes.clone();
+                changed[at] ^= change;
+                agree("a byte changed", &changed, lent.clone());
+            }
+            agree("cut", &bytes[..at], lent.clone());
+        }
+        let mut longer = bytes.clone();
+        for _ in 0..20 {
+            longer.push(0);
+            agree("extended", &longer, lent.clone());
+        }
+    }
+}
+
+/// On a closed table with a clean skin the five cases take a proposal exactly
+/// if the skin is clean after it. Each f must come with each answer it can have.
+#[test]
+fn five_cases_keep_the_skin_clean() {
+    let random = &mut Random::new(7);
+    let mut seen = [[[0; 2]; 5]; 2];
+    for number in 0..800 {
+        let (_, table) = tables::any(12 + number / 8, random);
+        let mut job = table.job();
+        if random.chance(50) {
+            job.marks = growth::full_marks(&table);
+        }
+        let adds = random.pick(&[20, 50, 80]);
+        growth::propose(&mut job, 40, adds, random);
+        let lent = Lent::zeros(Rooms::exact(job.rows.len(), job.proposals.len()));
+        let (outcome, lent) = agree("five cases", &job.bytes(), lent);
+        assert_eq!(outcome[0], 0);
+        let mut marks = job.marks.clone();
+        for (&[row, kind], &answer) in job.proposals.iter().zip(&lent.answers) {
+            if answer != 0 && answer != 5 {
+                continue;
+            }
+            let row = row as usize;
+            let f = slow::triangles_on_skin(&job.rows, &marks, row);
+            seen[kind as usize - 1][f][usize::from(answer == 5)] += 1;
+            marks[row] ^= 1;
+            let clean = slow::is_clean(job.ids, &slow::skin(&job.rows, &marks));
+            assert_eq!(clean, answer == 0, "f = {f}");
+            if !clean {
+                marks[row] ^= 1;
+            }
+        }
+    }
+    println!("add, then remove: taken and refused for each f: {seen:?}");
+    for by_f in seen {
+        for (f, [taken, refused]) in by_f.into_iter().enumerate() {
+            assert!(taken >= 10, "{seen:?}");
+            assert_eq!(refused >= 10, f <= 2, "{seen:?}");
+        }
+    }
+}
