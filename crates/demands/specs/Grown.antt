@@ -5,20 +5,18 @@ use mathlib.Core.Logic.{_↔_}
 use mathlib.Core.Bool.{true}
 use mathlib.Core.List.{List, flatten}
 use Prim.Native.Nat.{ℕ, _+_, _<_}
-use lib.ListN.{length, getD, take}
-use Rattle.rules.specs.Below.{tabulate}
-use Rattle.rules.specs.Table.{Table, tableOf, neighbourList}
-use Rattle.rules.specs.Skin.{onSkin, triangle, skin}
+use lib.ListN.{length, getD}
+use Rattle.rules.specs.Table.{tableOf, neighbourList}
+use Rattle.rules.specs.Skin.{onSkin, skin}
 use Rattle.rules.specs.Proposals.{Proposal, insideIn, answer, answersTo, finalMarks, taken}
-use Rattle.rules.specs.Job.{track, headerOf, rowsTable, proposalIn, tableOfJob, marksOfJob, proposalsOfJob, Lent, written, Result, accepted, run}
+use Rattle.rules.specs.Job.{track, headerOf, rowsTable, tableOfJob, marksOfJob, proposalsOfJob, Lent, written, Result, accepted, run}
 use Rattle.rules.specs.Laws.Lists.{Among, Distinct, tabulate-length}
 use Rattle.rules.specs.Laws.Written.{written-at}
 use Rattle.rules.specs.Laws.Proposals.{answer-at, answers-length}
 use Rattle.rules.specs.Laws.First.{FirstOf, conditionAt}
-use Rattle.rules.specs.Reading.Neighbours.{Side}
 use Rattle.rules.specs.Reading.Answers.{answerConditions, answer-exactly, taken-exactly}
 use Rattle.rules.specs.Reading.Skin.{BetweenSides, skin-between-sides}
-use Rattle.rules.specs.Reading.Room.{Listed, skin-listed, skin-once, at-most-2N}
+use Rattle.rules.specs.Reading.Room.{Listed, skin-listed, skin-once}
 use Rattle.rules.specs.Reading.Codes.{run-accepted, run-code, accepted-closed}
 use Rattle.track.specs.declared.Outcome.{Outcome}
 use Rattle.track.specs.Outcomes.{result}

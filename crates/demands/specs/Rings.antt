@@ -1,7 +1,7 @@
 -- Demand 3. For every accepted job, after each proposal the far edges at each skin corner form one single ring; a proposal that passes
 -- the earlier tests is refused exactly if taking it would break that; and the taken proposals, run backwards with add and remove
 -- exchanged, are all taken and bring back the start.
-use mathlib.Core.Path.{_≡_, sym, _∙_}
+use mathlib.Core.Path.{_≡_}
 use mathlib.Core.Logic.{_↔_}
 use mathlib.Core.Bool.{true, false}
 use mathlib.Core.List.{List}
