@@ -39,16 +39,16 @@ firstEnd f v = cond (eqb (f .a) v) (f .b) (f .a)
 unfoldable pub secondEnd : Face → ℕ → ℕ
 secondEnd f v = cond (eqb (f .c) v) (f .b) (f .c)
 
-InFace : Face → ℕ → Type 0
+unfoldable pub InFace : Face → ℕ → Type 0
 InFace f u = (f .a ≡ u) ⊎ ((f .b ≡ u) ⊎ (f .c ≡ u))
 
-in-face : (f : Face) (u : ℕ) → inFace f u ≡ true → InFace f u
+pub in-face : (f : Face) (u : ℕ) → inFace f u ≡ true → InFace f u
 unfolding inFace InFace
 in-face f u e =
     ⊎-elim (λ two. ⊎-elim (λ x. inl (eqb-true (f .a) u x)) (λ x. inr (inl (eqb-true (f .b) u x))) (or-either (eqb (f .a) u) (eqb (f .b) u) two))
     (λ x. inr (inr (eqb-true (f .c) u x))) (or-either (eqb (f .a) u || eqb (f .b) u) (eqb (f .c) u) e)
 
-face-in : (f : Face) (u : ℕ) → InFace f u → inFace f u ≡ true
+pub face-in : (f : Face) (u : ℕ) → InFace f u → inFace f u ≡ true
 unfolding inFace InFace
 face-in f u (inl e) = or-first (eqb (f .c) u) (or-first (eqb (f .b) u) (eq-eqb (f .a) u e))
 face-in f u (inr (inl e)) = or-first (eqb (f .c) u) (or-second (eqb (f .a) u) (eq-eqb (f .b) u e))
@@ -126,7 +126,7 @@ corner-stays c i lc li =
     (ltb-true (cornerOf c i) 4 (and-first (ltb (cornerOf c i) 4) (not (eqb (cornerOf c i) c)) e), eqb-false (cornerOf c i) c (not-true (eqb (cornerOf c i) c) (and-second (ltb (cornerOf c i) 4) (not (eqb (cornerOf c i) c)) e)))
 
 -- a corner that is not left out
-corner-of-face : (t : Table) (r c k : ℕ) → c < 4 → k < 4 → k ≢ c → InFace (faceOf t r c) (t .id r k)
+pub corner-of-face : (t : Table) (r c k : ℕ) → c < 4 → k < 4 → k ≢ c → InFace (faceOf t r c) (t .id r k)
 unfolding InFace faceOf
 corner-of-face t r c k lc lk ne =
     ⊎-elim (λ e. absurd (ne (eqb-true k c e))) (λ e.
@@ -137,7 +137,7 @@ corner-of-face t r c k lc lk ne =
     (all-each 4 (λ k. eqb k c || (eqb (cornerOf c 0) k || (eqb (cornerOf c 1) k || eqb (cornerOf c 2) k)))
     (all-each 4 (λ c. all 4 (λ k. eqb k c || (eqb (cornerOf c 0) k || (eqb (cornerOf c 1) k || eqb (cornerOf c 2) k)))) corners-test c lc) k lk))
 
-face-corner : (t : Table) (r c u : ℕ) → c < 4 → InFace (faceOf t r c) u → (k : ℕ) × (k < 4) × (k ≢ c) × (t .id r k ≡ u)
+pub face-corner : (t : Table) (r c u : ℕ) → c < 4 → InFace (faceOf t r c) u → (k : ℕ) × (k < 4) × (k ≢ c) × (t .id r k ≡ u)
 unfolding InFace faceOf
 face-corner t r c u lc (inl e) = let (l, ne) = corner-stays c 0 lc (lit< tt) in (cornerOf c 0, l, ne, e)
 face-corner t r c u lc (inr (inl e)) = let (l, ne) = corner-stays c 1 lc (lit< tt) in (cornerOf c 1, l, ne, e)

@@ -2,8 +2,10 @@
 --     Ends   far edges kept by their ends
 --     Rings  one ring, decided from the ends
 --     Far    the far edges of a vertex, gathered place by place
+--     Vertices  the vertices on the skin, flagged place by place
 --     Start  codes 10 to 12, first match decides
 pub mod Ends
 pub mod Rings
 pub mod Far
+pub mod Vertices
 pub mod Start

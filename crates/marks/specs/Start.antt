@@ -1,20 +1,17 @@
 -- What codes 10 to 12 look for, first match decides.
 use mathlib.Core.Path.{_≡_, sym, ap, _∙_}
-use mathlib.Core.Logic.{⊎-elim}
 use mathlib.Core.Bool.{Bool, not, _&&_, _||_}
 use mathlib.Core.List.{List}
-use Prim.Native.Nat.{ℕ, _/_, _<_}
+use Prim.Native.Nat.{ℕ, _/_}
 use lib.Dec.{eqb}
 use lib.ListN.{length, getD}
 use Rattle.rules.specs.Below.{lowest}
 use Rattle.rules.specs.First.{Verdict, firstMatch}
 use Rattle.rules.specs.Table.{Table, outer}
-use Rattle.rules.specs.Skin.{oneRing, skinVertex, ringless}
+use Rattle.rules.specs.Skin.{ringless}
 use Rattle.rules.specs.Proposals.{insideIn}
 use Rattle.rules.specs.Job.{markTests}
-use Rattle.rules.specs.Laws.Truth.{true-or-false}
 use Rattle.rules.specs.Laws.First.{match-here, match-later, match-end}
-use Rattle.rules.specs.Reading.Ring.{one-ring-reads, off-skin-ring}
 use Rattle.table.specs.declared.Found.{Found}
 use Rattle.table.specs.declared.Found.the-variants.{At, Nowhere}
 use Rattle.table.specs.Rows.{tableIn, placeOf}
@@ -33,14 +30,6 @@ badMark marks r = not (eqb (getD marks r 0) 0 || eqb (getD marks r 0) 1)
 
 abbrev pub outerInside : Table → List ℕ → ℕ → Bool
 outerInside t marks r = outer t r && insideIn marks r
-
--- a vertex without one ring is on the skin: off it there is nothing that could fail
-pub ringless-is : (t : Table) (inside : ℕ → Bool) (n v : ℕ) → v < n → ringless t inside n v ≡ not (oneRing t inside n v)
-unfolding ringless
-ringless-is t inside n v l =
-    ⊎-elim (λ on. ap (λ (b : Bool). b && not (oneRing t inside n v)) on)
-    (λ off. ap (λ (b : Bool). b && not (oneRing t inside n v)) off ∙ sym (ap not (one-ring-reads t inside n v .1 (off-skin-ring t inside n v l off))))
-    (true-or-false (skinVertex t inside n v))
 
 module _ (bytes marks : List ℕ) (ids : ℕ) (each : length marks ≡ length bytes / 16) (bad : Found) (looked : placeOf bad ≡ lowest (length marks) (badMark marks)) where
   found-bad : lowest (length bytes / 16) (badMark marks) ≡ placeOf bad

@@ -2,13 +2,16 @@
 mod ends;
 mod far;
 mod ring;
+mod vertices;
 
 use far::gather;
 use ring::is_ring;
 use skin::is_inside;
 use table::Found;
 use table::holds;
+use vertices::flag_skin;
 ghost use mathlib.Core.Path.{_≡_};
+ghost use mathlib.Core.Bool.{not, _&&_};
 ghost use Prim.Native.Nat.{_/_, _≤_};
 ghost use lib.ListN.{length};
 ghost use Rattle.rules.specs.Below.{lowest};
@@ -18,6 +21,7 @@ ghost use Rattle.rules.specs.Proposals.{insideIn};
 ghost use Rattle.rules.specs.Job.{markTests};
 ghost use Rattle.table.specs.Rows.{tableIn, placeOf};
 ghost use Rattle.marks.specs.Far.{Marked};
+ghost use Rattle.marks.specs.Vertices.{Told};
 ghost use Rattle.marks.specs.Start.{badMark, outerInside, verdictOf};
 
 // The first rule that the marks break, with the row or the vertex that breaks it.
@@ -84,19 +88,53 @@ fn one_ring(rows: &[u8], neighbours: &[u32], marks: &[u8], ids: usize, vertex: u
     is_ring(ids, &degree, &last, &before)
 }
 
-// The lowest skin vertex without one ring.
-fn ringless_vertex(rows: &[u8], neighbours: &[u32], marks: &[u8], ids: usize) -> Found
+// A vertex that is on the skin has no ring.
+fn is_ringless(
+    rows: &[u8],
+    neighbours: &[u32],
+    marks: &[u8],
+    ids: usize,
+    vertex: usize,
+    on: bool,
+) -> bool
     requires { ⌜ Marked (now rows) (now neighbours) (now marks) ids ⌝ }
+    ensures { λ r. ⌜ r ≡ (on && not (oneRing (tableIn (now (rows .entry))) (insideIn (now (marks .entry))) ids vertex)) ⌝ }
+{
+    if !on {
+        return false;
+    }
+    !one_ring(rows, neighbours, marks, ids, vertex)
+}
+
+fn first_ringless(
+    rows: &[u8],
+    neighbours: &[u32],
+    marks: &[u8],
+    ids: usize,
+    flags: &[u8; 1024],
+) -> Found
+    requires { ⌜ Marked (now rows) (now neighbours) (now marks) ids × Told (now rows) (now marks) ids (now flags) ⌝ }
     ensures { λ r. ⌜ placeOf r ≡ lowest ids (ringless (tableIn (now (rows .entry))) (insideIn (now (marks .entry))) ids) ⌝ }
 {
     let mut vertex = 0;
     while vertex < ids {
-        if !one_ring(rows, neighbours, marks, ids, vertex) {
+        let on = flags[vertex] == 1;
+        if is_ringless(rows, neighbours, marks, ids, vertex, on) {
             return Found::At(vertex);
         }
         vertex += 1;
     }
     Found::Nowhere
+}
+
+// The lowest skin vertex without one ring.
+fn ringless_vertex(rows: &[u8], neighbours: &[u32], marks: &[u8], ids: usize) -> Found
+    requires { ⌜ Marked (now rows) (now neighbours) (now marks) ids ⌝ }
+    ensures { λ r. ⌜ placeOf r ≡ lowest ids (ringless (tableIn (now (rows .entry))) (insideIn (now (marks .entry))) ids) ⌝ }
+{
+    let mut flags = [0u8; 1024];
+    flag_skin(rows, neighbours, marks, ids, &mut flags);
+    first_ringless(rows, neighbours, marks, ids, &flags)
 }
 
 // The first of the refusals 10 to 12.

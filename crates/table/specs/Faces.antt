@@ -4,7 +4,7 @@ use mathlib.Core.Path.{_≡_, refl, sym, ap, _∙_}
 use mathlib.Core.Logic.{_⊎_, inl, inr, ⊎-elim}
 use mathlib.Core.Bool.{Bool, true, false, not, _&&_, _||_, cond, Bool·beq}
 use mathlib.Core.List.{List, [], _∷_}
-use Prim.Native.Nat.{ℕ, _+_, _*_, _%_, _≤_, _<_}
+use Prim.Native.Nat.{ℕ, _+_, _*_, _/_, _%_, _^_, _≤_, _<_}
 use native.Mathlib.Omega.{arith}
 use lib.Dec.{eqb, ltb, lit<, lit≤}
 use lib.ListN.{getD}
@@ -105,6 +105,32 @@ corners-pass = refl
 pub corner-below : (face k : ℕ) → face < 14 → k < 3 → cornerOf face k < 4
 corner-below face k l m =
     ltb-true (cornerOf face k) 4 (all-each 3 (λ k. ltb (cornerOf face k) 4) (all-each 14 (λ face. all 3 (λ k. ltb (cornerOf face k) 4)) corners-pass face l) k m)
+
+-- the packed corners are those of the table
+packedTest : ℕ → ℕ → Bool
+packedTest word k = all 14 (λ face. eqb (word / 2 ^ (2 * face) % 4) (cornerOf face k))
+
+packed-pass : (packedTest 239681537 0 && packedTest 240105818 1 && packedTest 240105919 2) ≡ true
+unfolding packedTest all cornerOf faceCorners
+packed-pass = refl
+
+packed-is : (word k : ℕ) → packedTest word k ≡ true → (face : ℕ) → face < 14 → word / 2 ^ (2 * face) % 4 ≡ cornerOf face k
+unfolding packedTest
+packed-is word k e face l = eqb-true (word / 2 ^ (2 * face) % 4) (cornerOf face k) (all-each 14 (λ face. eqb (word / 2 ^ (2 * face) % 4) (cornerOf face k)) e face l)
+
+pub first-packed : (face : ℕ) → face < 14 → 239681537 / 2 ^ (2 * face) % 4 ≡ cornerOf face 0
+first-packed = packed-is 239681537 0 (and-first (packedTest 239681537 0) (packedTest 240105818 1) (and-first (packedTest 239681537 0 && packedTest 240105818 1) (packedTest 240105919 2) packed-pass))
+
+pub second-packed : (face : ℕ) → face < 14 → 240105818 / 2 ^ (2 * face) % 4 ≡ cornerOf face 1
+second-packed = packed-is 240105818 1 (and-second (packedTest 239681537 0) (packedTest 240105818 1) (and-first (packedTest 239681537 0 && packedTest 240105818 1) (packedTest 240105919 2) packed-pass))
+
+pub third-packed : (face : ℕ) → face < 14 → 240105919 / 2 ^ (2 * face) % 4 ≡ cornerOf face 2
+third-packed = packed-is 240105919 2 (and-second (packedTest 239681537 0 && packedTest 240105818 1) (packedTest 240105919 2) packed-pass)
+
+pub face-is : (t : Table) (r face : ℕ) {i j k : ℕ} {f : Face} → i ≡ cornerOf face 0 → j ≡ cornerOf face 1 → k ≡ cornerOf face 2
+    → f .a ≡ t .id r i → f .b ≡ t .id r j → f .c ≡ t .id r k → f ≡ faceOf t r face
+unfolding faceOf
+face-is t r face ei ej ek ea eb ec = λ x. record { a = (ea ∙ ap (t .id r) ei) x; b = (eb ∙ ap (t .id r) ej) x; c = (ec ∙ ap (t .id r) ek) x }
 
 -- an edge and a vertex repeat their last corner
 repeats-pass : all 14 (λ face. ltb face 4 || eqb (cornerOf face 2) (cornerOf face 1)) ≡ true

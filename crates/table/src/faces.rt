@@ -1,7 +1,7 @@
 // The faces of a row: its triangles, edges and vertices, each as three ids.
 use crate::id_at;
 ghost use mathlib.Core.Path.{_≡_};
-ghost use Prim.Native.Nat.{_*_, _/_, _%_, _<_};
+ghost use Prim.Native.Nat.{_*_, _/_, _%_, _^_, _<_};
 ghost use lib.Dec.{eqb};
 ghost use lib.ListN.{length};
 ghost use Rattle.table.specs.Rows.{tableIn};
@@ -10,7 +10,7 @@ ghost use Rattle.table.specs.Faces.{cornerOf, Kind, faceOf, sameIds, key
 ghost use Rattle.table.specs.Places.{faceAt};
 
 // Three corners for each face: the triangles by left-out corner, the edges, the vertices. Edges and vertices repeat their last corner.
-const CORNERS: [usize; 42] = [
+const CORNERS: [u8; 42] = [
     1,
     2,
     3,
@@ -61,12 +61,33 @@ pub struct Face {
     pub c: usize,
 }
 
+// A corner by value: one that is cast where it is read would ask that it fits.
+fn corner(x: u8) -> usize
+    ensures { λ r. ⌜ r ≡ x ⌝ }
+{
+    x as usize
+}
+
 // Corner k of a face.
 pub fn corner_of(face: usize, k: usize) -> usize
     requires { ⌜ (face < 14) × (k < 3) ⌝ }
     ensures { λ r. ⌜ r ≡ cornerOf face k ⌝ }
 {
-    CORNERS[3 * face + k]
+    corner(CORNERS[3 * face + k])
+}
+
+// The first, second and third corners again, two bits for each face: a constant table is laid out anew each time it is read.
+const FIRST_CORNERS: usize = 239681537;
+
+const SECOND_CORNERS: usize = 240105818;
+
+const THIRD_CORNERS: usize = 240105919;
+
+fn packed_corner(corners: usize, face: usize) -> usize
+    requires { ⌜ face < 14 ⌝ }
+    ensures { λ r. ⌜ r ≡ corners / 2 ^ (2 * face) % 4 ⌝ }
+{
+    (corners >> (2 * face)) % 4
 }
 
 pub fn face_of(rows: &[u8], row: usize, face: usize) -> Face
@@ -74,9 +95,9 @@ pub fn face_of(rows: &[u8], row: usize, face: usize) -> Face
     ensures { λ r. ⌜ r ≡ faceOf (tableIn (now (rows .entry))) row face ⌝ }
 {
     Face {
-        a: id_at(rows, row, corner_of(face, 0)),
-        b: id_at(rows, row, corner_of(face, 1)),
-        c: id_at(rows, row, corner_of(face, 2)),
+        a: id_at(rows, row, packed_corner(FIRST_CORNERS, face)),
+        b: id_at(rows, row, packed_corner(SECOND_CORNERS, face)),
+        c: id_at(rows, row, packed_corner(THIRD_CORNERS, face)),
     }
 }
 
