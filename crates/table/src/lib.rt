@@ -5,12 +5,14 @@ pub mod faces;
 mod flood;
 mod joined;
 mod rows;
+mod view;
 
 use across::neighbours;
 use joined::broken_face;
 use rows::bad_row;
 use rows::out_of_order;
-use words::word_at;
+use view::id_in;
+use view::view_of;
 ghost use mathlib.Core.Path.{_≡_};
 ghost use Prim.Native.Nat.{_+_, _*_, _/_, _≤_, _<_};
 ghost use lib.ListN.{length, getD, replicate};
@@ -40,12 +42,12 @@ pub enum Broken {
     Vertex(usize),
 }
 
-// The id of a row at a corner. Every id of a table is read here.
+// The id of a row at a corner, through the view. Every id of a table is read here.
 pub fn id_at(rows: &[u8], row: usize, corner: usize) -> usize
     requires { ⌜ (row < length (now rows) / 16) × (corner < 4) ⌝ }
     ensures { λ r. ⌜ r ≡ idIn (now (rows .entry)) row corner ⌝ }
 {
-    word_at(rows, 16 * row + 4 * corner) as usize
+    id_in(view_of(rows), row, corner)
 }
 
 // An id is one of a row's.
