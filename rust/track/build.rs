@@ -1,6 +1,7 @@
 //! Finds the archive of the proved engine and links it. The archive is x86-64
 //! code: for another processor a program that holds it is made instead, to be
-//! run under an emulator.
+//! run under an emulator, unless TRACK_NATIVE says that the archive is for
+//! this processor (`bench/native`).
 
 use std::env;
 use std::path::{Path, PathBuf};
@@ -8,6 +9,8 @@ use std::process::Command;
 
 fn main() {
     println!("cargo::rerun-if-env-changed=TRACK_C_DIR");
+    println!("cargo::rerun-if-env-changed=TRACK_NATIVE");
+    println!("cargo::rustc-check-cfg=cfg(linked)");
     let folder = match env::var_os("TRACK_C_DIR") {
         Some(folder) => PathBuf::from(folder),
         None => cargo_path("CARGO_MANIFEST_DIR").join("../../target/staticlib"),
@@ -22,7 +25,9 @@ fn main() {
         );
         return;
     }
-    if env::var("CARGO_CFG_TARGET_ARCH").as_deref() == Ok("x86_64") {
+    let x86_64 = env::var("CARGO_CFG_TARGET_ARCH").as_deref() == Ok("x86_64");
+    if x86_64 || env::var_os("TRACK_NATIVE").is_some() {
+        println!("cargo::rustc-cfg=linked");
         println!("cargo::rustc-link-search=native={}", folder.display());
         println!("cargo::rustc-link-lib=static=track_c");
     } else {

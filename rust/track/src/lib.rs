@@ -1,11 +1,11 @@
 //! The proved engine for track jobs, called from Rust.
 
-#[cfg_attr(target_arch = "x86_64", path = "linked.rs")]
-#[cfg_attr(not(target_arch = "x86_64"), path = "emulated.rs")]
+#[cfg_attr(linked, path = "linked.rs")]
+#[cfg_attr(not(linked), path = "emulated.rs")]
 mod engine;
 
 /// Whether the engine runs under an emulator, so that its times say nothing.
-pub const EMULATED: bool = cfg!(not(target_arch = "x86_64"));
+pub const EMULATED: bool = cfg!(not(linked));
 
 /// What a run returns. A refusal has zero for both counts.
 #[derive(Clone, Copy, Debug, PartialEq, Eq)]
