@@ -1,6 +1,6 @@
 -- The edges of a row by position, and the edge that two skin triangles share.
 use mathlib.Core.Path.{_≡_, refl, sym, ap, _∙_}
-use mathlib.Core.Logic.{⊎-elim}
+use mathlib.Core.Logic.{⊎-elim, _↔_, _≢_}
 use mathlib.Core.Bool.{Bool, true, false, not, _&&_, _||_}
 use mathlib.Core.List.{List, [], _∷_, flatten}
 use Prim.Native.Nat.{ℕ, zero, suc, _+_, _*_, _<_}
@@ -10,7 +10,7 @@ use lib.ListN.{getD}
 use borrow.Author.Tests.{eqb-true, eq-eqb, ltb-true, not-true}
 use Rattle.rules.specs.Below.{any, all, bit, sum, count, gather, only, pick}
 use Rattle.rules.specs.Shape.{edgeTable, oppositeTable}
-use Rattle.rules.specs.Laws.Truth.{not-both, and-first, and-second, or-either, or-neither, same-or-not}
+use Rattle.rules.specs.Laws.Truth.{not-both, and-first, and-second, or-either, or-neither, same-or-not, not-reads, and-reads, eqb-reads}
 use Rattle.rules.specs.Laws.Below.{any-more, any-same, all-each}
 use Rattle.rules.specs.Laws.Count.{count-same}
 use Rattle.rules.specs.Laws.Lists.{pick-same}
@@ -45,6 +45,27 @@ module _ (e k : ℕ) (l : e < 6) (m : k < 2) where
 
   pub opposite-below : oppositeCorner e k < 4
   opposite-below = ltb-true (oppositeCorner e k) 4 (and-second (ltb (edgeCorner e k) 4) (ltb (oppositeCorner e k) 4) below)
+
+-- ---- an edge and its opposite have no corner in common
+
+apartTest : ℕ → Bool
+apartTest e = not (eqb (oppositeCorner e 0) (oppositeCorner e 1)) && (not (eqb (edgeCorner e 0) (oppositeCorner e 0)) && not (eqb (edgeCorner e 0) (oppositeCorner e 1)))
+
+apart-passes : all 6 apartTest ≡ true
+unfolding all apartTest edgeCorner oppositeCorner edgeTable oppositeTable flatten
+apart-passes = refl
+
+pub corners-apart : (e : ℕ) → e < 6 → (oppositeCorner e 0 ≢ oppositeCorner e 1) × (edgeCorner e 0 ≢ oppositeCorner e 0) × (edgeCorner e 0 ≢ oppositeCorner e 1)
+unfolding apartTest
+corners-apart e l =
+    let (ends, (zeroth, first)) =
+    and-reads (differ (oppositeCorner e 0) (oppositeCorner e 1)) (and-reads (differ (edgeCorner e 0) (oppositeCorner e 0)) (differ (edgeCorner e 0) (oppositeCorner e 1))) .0
+    (all-each 6 apartTest apart-passes e l)
+    in
+    (ends, zeroth, first)
+  where
+    differ : (i j : ℕ) → (not (eqb i j) ≡ true) ↔ (i ≢ j)
+    differ i j = not-reads (eqb-reads i j)
 
 -- ---- the edge that is in both of two skin triangles
 

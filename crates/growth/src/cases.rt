@@ -1,10 +1,12 @@
 // The five cases, by the number of a row's triangles on the skin.
+use crate::about::about_free;
+use crate::edges::edge_corner;
 use crate::edges::opposite_corner;
 use crate::edges::shared_edge;
-use crate::free::both_free;
 use crate::free::vertex_free;
 use crate::free::vertices_free;
 use skin::is_between;
+use table::across_at;
 use table::faces::pick;
 use table::id_at;
 ghost use mathlib.Core.Path.{_≡_};
@@ -41,7 +43,7 @@ fn left_out(neighbours: &[u32], marks: &[u8], row: usize) -> LeftOut
 
 // No row of the other side holds the edge that is in neither of two skin triangles.
 fn edge_free(rows: &[u8], neighbours: &[u32], marks: &[u8], adding: bool, row: usize) -> bool
-    requires { ⌜ (length (now rows) / 16 ≤ length (now marks)) × (row < length (now rows) / 16) × Surrounded (now neighbours) (now marks) row
+    requires { ⌜ Ground (now rows) (now neighbours) × (length (now rows) / 16 ≤ length (now marks)) × (row < length (now rows) / 16)
         × (count 4 (between (now neighbours) (now marks) row) ≡ 2) ⌝ }
     ensures { λ r. ⌜ r ≡ free (tableIn (now (rows .entry))) (otherSide adding (insideIn (now (marks .entry)))) row
         (pick 4 (between (now (neighbours .entry)) (now (marks .entry)) row)) ⌝ }
@@ -49,7 +51,8 @@ fn edge_free(rows: &[u8], neighbours: &[u32], marks: &[u8], adding: bool, row: u
     let edge = shared_edge(neighbours, marks, row);
     let a = id_at(rows, row, opposite_corner(edge, 0));
     let b = id_at(rows, row, opposite_corner(edge, 1));
-    both_free(rows, marks, adding, a, b)
+    let last = across_at(neighbours, row, edge_corner(edge, 0));
+    about_free(rows, neighbours, marks, adding, a, b, row, last)
 }
 
 pub(crate) fn passes(

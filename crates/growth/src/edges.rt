@@ -13,7 +13,7 @@ const EDGES: [usize; 12] = [0, 1, 0, 2, 0, 3, 1, 2, 1, 3, 2, 3];
 // The edge opposite each.
 const OPPOSITES: [usize; 12] = [2, 3, 1, 3, 1, 2, 0, 3, 0, 2, 0, 1];
 
-fn edge_corner(edge: usize, k: usize) -> usize
+pub(crate) fn edge_corner(edge: usize, k: usize) -> usize
     requires { ⌜ (edge < 6) × (k < 2) ⌝ }
     ensures { λ r. ⌜ r ≡ edgeCorner edge k ⌝ }
 {

@@ -1,4 +1,5 @@
 // Growing: the five cases, and the answers to proposals.
+mod about;
 mod answering;
 mod cases;
 mod edges;

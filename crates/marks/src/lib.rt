@@ -88,7 +88,7 @@ fn one_ring(rows: &[u8], neighbours: &[u32], marks: &[u8], ids: usize, vertex: u
     is_ring(ids, &degree, &last, &before)
 }
 
-// A vertex that is on the skin has no ring.
+// A vertex is on the skin and has no ring.
 fn is_ringless(
     rows: &[u8],
     neighbours: &[u32],

@@ -15,7 +15,7 @@ vertex-free-requires : tie.Need-vertex-free-requires
 vertex-free-requires c κs = (c .before .before .before .before .before .pre .1, c .before .before .before .before .before .pre .2, counted-one (c .before .left-out .ensures) (c .match .keys2) .0)
 
 edge-free-requires : tie.Need-edge-free-requires
-edge-free-requires c κs = (c .before .before .before .before .before .pre .1, c .before .before .before .before .before .pre .2, ground-surrounds (c .before .before .before .before .before .args .marks .now) (c .before .before .before .before .before .args .row) (c .before .before .before .before .before .pre .0) (c .before .before .before .before .before .pre .1) (c .before .before .before .before .before .pre .2), sym (c .before .left-out .ensures .counted) ∙ c .match .keys3)
+edge-free-requires c κs = (c .before .before .before .before .before .pre .0, c .before .before .before .before .before .pre .1, c .before .before .before .before .before .pre .2, sym (c .before .left-out .ensures .counted) ∙ c .match .keys3)
 
 returns : tie.Need-returns
 returns c = c .vertices-free .ensures ∙ case-none (c .before .before .before .before .before .before .pre .0) (c .before .before .before .before .before .before .args .marks .now) (c .before .before .before .before .before .before .args .adding) (c .before .before .before .before .before .before .args .row) (c .before .before .before .before .before .before .pre .2) (c .before .before .left-out .ensures) (c .before .match .keys1)
