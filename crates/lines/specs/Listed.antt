@@ -1,0 +1,124 @@
+-- What a run gives, and the listing of it.
+use mathlib.Core.Path.{_≡_, refl, sym, ap, _∙_}
+use mathlib.Core.Logic.{_≢_}
+use mathlib.Core.List.{List, flatten}
+use Prim.Native.Nat.{ℕ, _+_, _*_, _≤_}
+use native.Mathlib.Omega.{arith}
+use lib.ListN.{length, replicate, length-replicate}
+use borrow.Author.Tests.{le-ltb, ne-eqb}
+use Rattle.rules.specs.Table.{tableOf}
+use Rattle.rules.specs.Skin.{skin}
+use Rattle.rules.specs.Proposals.{insideIn, answersTo, finalMarks, taken}
+use Rattle.rules.specs.Job.{track, headerOf, rowsTable, tableOfJob, marksOfJob, proposalsOfJob, Result, written, accepted, run}
+use Rattle.rules.specs.Laws.Lists.{gather-same, tabulate-length}
+use Rattle.rules.specs.Laws.Proposals.{answers-length}
+use Rattle.rules.specs.Laws.Written.{written-at}
+use Rattle.rules.specs.Reading.Room.{at-most-2N, skin-words}
+use Rattle.rules.specs.Reading.Codes.{limits-read, laid-out-reads, run-accepted, run-code, accepted-closed, accepted-header}
+use Rattle.job.specs.declared.Reading.{Reading}
+use Rattle.job.specs.declared.Reading.the-variants.{Short, Limits, Layout, Laid}
+use Rattle.job.specs.Reading.{header, readingOf}
+use Rattle.track.specs.declared.Outcome.{Outcome}
+use Rattle.track.specs.Outcomes.{lent, result}
+use Rattle.lines.specs.Listing.{answerLine, answerLines, triangleLine, triangleLines, doneText, refusedText, listing, zeros, listingOf}
+use Rattle.lines.specs.Put.{Put, put-front}
+
+-- P, if the header is laid out
+abbrev pub proposalsIn : Reading → ℕ
+proposalsIn Short = 0
+proposalsIn Limits = 0
+proposalsIn Layout = 0
+proposalsIn (Laid h) = h .proposals
+
+-- the listing of a job at the front of a buffer
+pub listed : (job : List ℕ) {text out out′ : List ℕ} {n : ℕ} → text ≡ listingOf job → Put text out 0 out′ n → n ≤ length out
+    → (n ≡ length (listingOf job)) × (out′ ≡ written (listingOf job) out)
+listed job e p room = rw (← e) (put-front p (omega (arith, p .behind)))
+
+module _ (job : List ℕ) {o : Outcome} {answers marks triangles work : List ℕ}
+    (is : result o (lent answers marks triangles work) ≡ run track job (lent (replicate 1024 0) (replicate 2048 0) (replicate 12288 0) (replicate 8192 0))) where
+  is-run : result o (lent answers marks triangles work) ≡ run track job zeros
+  unfolding zeros
+  is-run = is
+
+  pub refused-is : o .code ≢ 0 → refusedText (o .code) (o .place) ≡ listingOf job
+  unfolding listingOf listing
+  refused-is ne = rw (← is-run, ne-eqb (o .code) 0 ne)
+
+  module _ (z : o .code ≡ 0) where
+    ran : run track job zeros .code ≡ 0
+    ran = sym (ap (λ (r : Result). r .code) is-run) ∙ z
+
+    laid : readingOf job ≡ Laid (header job)
+    unfolding readingOf
+    laid =
+        let (limits, out) = accepted-header job zeros ran in
+        rw (le-ltb (length job) 32 (omega (arith, out .1, out .0 .0 .1)), limits-read (headerOf job) .1 limits, laid-out-reads (headerOf job) job .1 out)
+
+    few-triangles : o .triangles ≤ 4096
+    unfolding accepted tableOfJob rowsTable tableOf
+    few-triangles =
+        omega (
+          arith,
+          ap (λ (r : Result). r .triangles) (is-run ∙ run-accepted job zeros (sym (run-code job zeros) ∙ ran)),
+          at-most-2N (tableOfJob track job) (insideIn (finalMarks (tableOfJob track job) (marksOfJob track job) (proposalsOfJob track job))) (accepted-closed job zeros ran) refl,
+          accepted-header job zeros ran .0 .0 .1 .1,
+        )
+
+    -- p was read from the header
+    module _ {p : ℕ} (ep : p ≡ proposalsIn (readingOf job)) where
+      the-proposals : p ≡ headerOf job .proposals
+      the-proposals = ep ∙ ap proposalsIn laid
+
+      few-proposals : p ≤ 1024
+      few-proposals = rw the-proposals (accepted-header job zeros ran .0 .1 .1)
+
+      pub done-fits : length answers ≡ length (replicate {A = ℕ} 1024 0) → length triangles ≡ length (replicate {A = ℕ} 12288 0)
+          → (p ≤ 1024) × (o .triangles ≤ 4096) × (p ≤ length answers) × (3 * o .triangles ≤ length triangles)
+      done-fits ea et = (
+        few-proposals,
+        few-triangles,
+        omega (arith, few-proposals, ea, length-replicate {A = ℕ} 1024 0),
+        omega (arith, few-triangles, et, length-replicate {A = ℕ} 12288 0),
+      )
+
+      pub done-is : doneText p (o .taken) (o .triangles) answers triangles ≡ listingOf job
+      unfolding listingOf listing
+      done-is = rw (the-proposals, ← is-run, z)
+
+-- ---- the listing of an accepted job, with no word of buffers
+
+answers-front : (xs d : List ℕ) (n : ℕ) → n ≤ length xs → answerLines (written xs d) n ≡ answerLines xs n
+unfolding answerLines answerLine
+answers-front xs d n l = gather-same n (answerLine (written xs d)) (answerLine xs) (λ k m. rw (written-at xs d k (omega arith)))
+
+triangles-front : (xs d : List ℕ) (n : ℕ) → 3 * n ≤ length xs → triangleLines (written xs d) n ≡ triangleLines xs n
+unfolding triangleLines triangleLine
+triangles-front xs d n l =
+    gather-same n (triangleLine (written xs d)) (triangleLine xs) (λ k m.
+    rw (written-at xs d (3 * k) (omega arith), written-at xs d (3 * k + 1) (omega arith), written-at xs d (3 * k + 2) (omega arith)))
+
+-- the answers to a job's proposals, and the skin after them
+unfoldable pub answersOf : List ℕ → List ℕ
+answersOf job = answersTo (tableOfJob track job) (marksOfJob track job) (proposalsOfJob track job)
+
+unfoldable pub skinOfJob : List ℕ → List (List ℕ)
+skinOfJob job = skin (tableOfJob track job) (insideIn (finalMarks (tableOfJob track job) (marksOfJob track job) (proposalsOfJob track job)))
+
+each-answered : (job : List ℕ) → length (answersOf job) ≡ headerOf job .proposals
+unfolding answersOf proposalsOfJob
+each-answered job = answers-length (tableOfJob track job) (marksOfJob track job) (proposalsOfJob track job) ∙ tabulate-length (headerOf job .proposals) _
+
+three-ids : (job : List ℕ) → length (flatten (skinOfJob job)) ≡ 3 * length (skinOfJob job)
+unfolding skinOfJob tableOfJob rowsTable tableOf
+three-ids job = skin-words (tableOfJob track job) (insideIn (finalMarks (tableOfJob track job) (marksOfJob track job) (proposalsOfJob track job))) refl
+
+pub accepted-listing : (job : List ℕ) → run track job zeros .code ≡ 0
+    → listingOf job ≡ doneText (headerOf job .proposals) (taken (answersOf job)) (length (skinOfJob job)) (answersOf job) (flatten (skinOfJob job))
+unfolding listingOf listing accepted doneText answersOf skinOfJob
+accepted-listing job z =
+    rw (
+      run-accepted job zeros (sym (run-code job zeros) ∙ z),
+      answers-front (answersOf job) (zeros .answers) (headerOf job .proposals) (omega (arith, each-answered job)),
+      triangles-front (flatten (skinOfJob job)) (zeros .triangles) (length (skinOfJob job)) (omega (arith, three-ids job)),
+    )

@@ -1,0 +1,69 @@
+// The listing of a job: the text that document 01 has printed of it.
+mod done;
+mod text;
+
+use done::put_done;
+use job::Reading;
+use job::read;
+use text::put_line;
+use track::run;
+ghost use mathlib.Core.Path.{_≡_};
+ghost use Prim.Native.Nat.{_≤_};
+ghost use lib.ListN.{length};
+ghost use Rattle.rules.specs.Job.{written};
+ghost use Rattle.job.specs.Reading.{readingOf};
+ghost use Rattle.lines.specs.Listing.{refusedText, listingOf};
+ghost use Rattle.lines.specs.Put.{Put};
+ghost use Rattle.lines.specs.Listed.{proposalsIn};
+
+// Bytes enough for every listing: a first line of 68 at most, 1,024 proposals of 12 and 4,096 triangles of 35.
+pub const ROOM: usize = 163840;
+
+fn put_refused(code: usize, place: usize, out: &mut [u8]) -> usize
+    requires { ⌜ 163840 ≤ length (now out) ⌝ }
+    ensures { λ r. ⌜ Put (refusedText code place) (now (out .entry)) 0 (now (out .exit)) r × (r ≤ 163840) ⌝ }
+{
+    let numbers = [code, place];
+    put_line(b"refused", &numbers, out, 0)
+}
+
+// P of a job that is laid out.
+fn proposals_of(job: &[u8]) -> usize
+    ensures { λ r. ⌜ r ≡ proposalsIn (readingOf (now (job .entry))) ⌝ }
+{
+    match read(job) {
+        Reading::Short => 0,
+        Reading::Limits => 0,
+        Reading::Layout => 0,
+        Reading::Laid(h) => h.proposals,
+    }
+}
+
+// Writes the listing of a job to the front of a buffer, and tells how long it is.
+pub fn list_job(job: &[u8], out: &mut [u8]) -> usize
+    requires { ⌜ 163840 ≤ length (now out) ⌝ }
+    ensures { λ r. ⌜ (r ≡ length (listingOf (now (job .entry)))) × (now (out .exit) ≡ written (listingOf (now (job .entry))) (now (out .entry))) ⌝ }
+{
+    let mut answers = [0u8; 1024];
+    let mut final_marks = [0u8; 2048];
+    let mut triangles = [0u32; 12288];
+    let mut work = [0u32; 8192];
+    let r = run(
+        job,
+        &mut answers,
+        &mut final_marks,
+        &mut triangles,
+        &mut work,
+    );
+    if r.code != 0 {
+        return put_refused(r.code, r.place, out);
+    }
+    put_done(
+        proposals_of(job),
+        r.taken,
+        r.triangles,
+        &answers,
+        &triangles,
+        out,
+    )
+}
