@@ -142,6 +142,18 @@ repeats face l m =
     ⊎-elim (λ t. absurd (omega (arith, ltb-true face 4 t))) (eqb-true (cornerOf face 2) (cornerOf face 1))
     (or-either (ltb face 4) (eqb (cornerOf face 2) (cornerOf face 1)) (all-each 14 (λ face. ltb face 4 || eqb (cornerOf face 2) (cornerOf face 1)) repeats-pass face m))
 
+-- a vertex has its corner three times
+vertices-pass : all 4 (λ c. all 3 (λ k. eqb c (cornerOf (10 + c) k))) ≡ true
+unfolding all cornerOf faceCorners
+vertices-pass = refl
+
+pub vertex-is : (t : Table) (r c : ℕ) → c < 4 → {v : ℕ} → v ≡ t .id r c → record { a = v; b = v; c = v } ≡ faceOf t r (10 + c)
+vertex-is t r c l e = face-is t r (10 + c) (its 0 (lit< tt)) (its 1 (lit< tt)) (its 2 (lit< tt)) e e e
+  where
+    its : (k : ℕ) → k < 3 → c ≡ cornerOf (10 + c) k
+    its k m =
+        eqb-true c (cornerOf (10 + c) k) (all-each 3 (λ k. eqb c (cornerOf (10 + c) k)) (all-each 4 (λ c. all 3 (λ k. eqb c (cornerOf (10 + c) k))) vertices-pass c l) k m)
+
 -- the face with the corners i, j and k
 isFace : ℕ → ℕ → ℕ → ℕ → Bool
 isFace i j k face = eqb (cornerOf face 0) i && eqb (cornerOf face 1) j && eqb (cornerOf face 2) k

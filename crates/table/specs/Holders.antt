@@ -9,6 +9,7 @@ use native.Mathlib.Nat.{mod-lt}
 use native.Mathlib.Omega.{arith}
 use lib.Dec.{eqb, lit<}
 use lib.ListN.{length, getD, set, replicate, length-replicate, getD-replicate}
+use lib.Seq.{getD-set-other}
 use borrow.Author.Tests.{eqb-true, eqb-false, not-true, not-false}
 use Rattle.rules.specs.Below.{lowest, any, all, gather, tabulate, count, pick}
 use Rattle.rules.specs.Joined.{connected}
@@ -18,6 +19,7 @@ use Rattle.rules.specs.Laws.Below.{any-some, all-same}
 use Rattle.rules.specs.Laws.Truth.{true-or-false, not-both, same-or-not, and-first, and-second, and-both}
 use Rattle.rules.specs.Laws.Count.{TheOther, the-other, count-same, count-not}
 use Rattle.rules.specs.Laws.Lists.{pick-same}
+use Rattle.rules.specs.Laws.Places.{row-of, within-row}
 use Rattle.rules.specs.Laws.Joined.{Chain, stay, step, chain-ends, chain-join, Picked}
 use Rattle.rules.specs.Reading.Rows.{Rising, Holds, holds-reads}
 use Rattle.rules.specs.Reading.Neighbours.{Side, side-self, Neighbours, neighbours-read, neighbours-back}
@@ -222,37 +224,95 @@ module _ {bytes work : List ℕ} (nb : Neighboured bytes work) (a b start k : �
         × (length stamp ≡ 2048) × (length queue ≡ 2048) × ((y : ℕ) → y < length bytes / 16 → getD stamp y 0 ≤ k)
     rows-end ls held l = (rows-joined (tableIn bytes) refl (each-rising (nb .rows)) (shared-triangles nb) a b k start stamp tail (ls, held) (flood-ends four-ways (length bytes / 16) k start (leaves (tableIn bytes) a b) (across (tableIn bytes)) (Reach (tableIn bytes) a b start) f l), f .stamps, f .places, f .low)
 
-    module _ (l : i < 4 * tail) {x : ℕ} (ex : x ≡ getD queue (i / 4) 0) where
-      pub reached-below : x < length bytes / 16
-      reached-below = rw ex (f .inside (i / 4) (omega arith) .0)
+-- row x stands at place i of the queue, and the corners below `corner` are done
+pub record Spreading (bytes : List ℕ) (a b start k i x corner : ℕ) (stamp queue : List ℕ) (tail : ℕ) : Type 0 where
+  pub flood : FloodingRows bytes a b start k stamp queue (4 * i + corner) tail
+  pub from : start < length bytes / 16
+  pub waits : i < tail
+  pub at : x ≡ getD queue i 0
 
-      module _ {y : ℕ} (ey : y ≡ getD work (4 * x + i % 4) 0) where
-        is-across : y ≡ across (tableIn bytes) x (i % 4)
-        is-across = ey ∙ nb .at x (i % 4) reached-below (omega arith)
+pub spread-begins : {bytes : List ℕ} {a b start k i x : ℕ} {stamp queue : List ℕ} {tail : ℕ} → FloodingRows bytes a b start k stamp queue (4 * i) tail → start < length bytes / 16 → i < tail → x ≡ getD queue i 0
+    → Spreading bytes a b start k i x 0 stamp queue tail
+spread-begins {bytes} {a} {b} {start} {k} {i} {x} {stamp} {queue} {tail} f ls l e = record {
+  flood = subst (λ (turn : ℕ). FloodingRows bytes a b start k stamp queue turn tail) (omega arith) f;
+  from = ls;
+  waits = l;
+  at = e;
+}
 
-        pub next-below : y < length bytes / 16
-        next-below = rw is-across (across-below (tableIn bytes) refl (each-rising (nb .rows)) (shared-triangles nb) x (i % 4) reached-below (omega arith))
+pub spread-ends : {bytes : List ℕ} {a b start k i x : ℕ} {stamp queue : List ℕ} {tail : ℕ} → Spreading bytes a b start k i x 4 stamp queue tail
+    → FloodingRows bytes a b start k stamp queue (4 * (i + 1)) tail
+spread-ends {bytes} {a} {b} {start} {k} {i} {x} {stamp} {queue} {tail} s = subst (λ (turn : ℕ). FloodingRows bytes a b start k stamp queue turn tail) (omega arith) (s .flood)
 
-        module _ {way : Bool} (ew : way ≡ leaves (tableIn bytes) a b x (i % 4)) where
-          -- a fresh row finds room in the queue
-          pub next-room : (way && not (eqb (getD stamp y 0) k)) ≡ true → tail < 2048
-          unfolding stamped
-          next-room on =
-              omega (
-                arith,
-                nb .rows .few,
-                flood-room four-ways (length bytes / 16) k start (leaves (tableIn bytes) a b) (across (tableIn bytes)) (Reach (tableIn bytes) a b start) f y next-below
-                    (not-true (stamped k stamp y) (and-second way (not (stamped k stamp y)) on)),
-              )
+module _ {bytes work : List ℕ} (nb : Neighboured bytes work) (a b start k i x corner : ℕ) (lc : corner < 4) {stamp queue : List ℕ} {tail : ℕ}
+    (s : Spreading bytes a b start k i x corner stamp queue tail) where
+  pub reached-below : x < length bytes / 16
+  reached-below = rw (s .at) (s .flood .inside i (s .waits) .0)
 
-          pub rows-turn : {stamp′ queue′ : List ℕ} {tail′ : ℕ} → stamp′ ≡ cond (way && not (eqb (getD stamp y 0) k)) (set stamp y k) stamp
-              → queue′ ≡ cond (way && not (eqb (getD stamp y 0) k)) (set queue tail y) queue → tail′ ≡ cond (way && not (eqb (getD stamp y 0) k)) (tail + 1) tail
-              → FloodingRows bytes a b start k stamp′ queue′ (i + 1) tail′
-          unfolding stamped
-          rows-turn =
-              flood-turn four-ways (length bytes / 16) k start (leaves (tableIn bytes) a b) (across (tableIn bytes)) (Reach (tableIn bytes) a b start) f l ex is-across (nb .rows .few) next-below
-              (λ w. rw is-across (move-good (tableIn bytes) refl (each-rising (nb .rows)) (shared-triangles nb) a b start x (i % 4) reached-below (omega arith) (rw ex (f .inside (i / 4) (omega arith) .1)) w))
-              (ap (λ (v : Bool). v && not (eqb (getD stamp y 0) k)) ew)
+  module _ {y : ℕ} (ey : y ≡ getD work (4 * x + corner) 0) where
+    is-across : y ≡ across (tableIn bytes) x corner
+    is-across = ey ∙ nb .at x corner reached-below lc
+
+    across-near : y < length bytes / 16
+    across-near = rw is-across (across-below (tableIn bytes) refl (each-rising (nb .rows)) (shared-triangles nb) x corner reached-below lc)
+
+    module _ {way : Bool} (ew : way ≡ leaves (tableIn bytes) a b x corner) where
+      -- a turn that finds the row across, if it is fresh
+      turn : {stamp′ queue′ : List ℕ} {tail′ : ℕ} → stamp′ ≡ cond (way && not (eqb (getD stamp y 0) k)) (set stamp y k) stamp
+          → queue′ ≡ cond (way && not (eqb (getD stamp y 0) k)) (set queue tail y) queue → tail′ ≡ cond (way && not (eqb (getD stamp y 0) k)) (tail + 1) tail
+          → Spreading bytes a b start k i x (corner + 1) stamp′ queue′ tail′
+      unfolding stamped
+      turn {stamp′} {queue′} {tail′} es eq et = record {
+        flood = subst (λ (turn : ℕ). FloodingRows bytes a b start k stamp′ queue′ turn tail′) (omega arith)
+            (flood-turn four-ways (length bytes / 16) k start (leaves (tableIn bytes) a b) (across (tableIn bytes)) (Reach (tableIn bytes) a b start) (s .flood) (omega (arith, s .waits)) {x = x} {y = y}
+            (rw (row-of four-ways i corner lc) (s .at)) (rw (within-row four-ways i corner lc) is-across) (nb .rows .few) across-near
+            (rw (within-row four-ways i corner lc) (λ w. rw is-across (move-good (tableIn bytes) refl (each-rising (nb .rows)) (shared-triangles nb) a b start x corner reached-below lc (rw (s .at) (s .flood .inside i (s .waits) .1)) w)))
+            {fresh = way && not (eqb (getD stamp y 0) k)} (rw (within-row four-ways i corner lc) (ap (λ (v : Bool). v && not (eqb (getD stamp y 0) k)) ew)) es eq et);
+        from = s .from;
+        waits = rw et (longer (way && not (eqb (getD stamp y 0) k)));
+        at = s .at ∙ rw eq (kept (way && not (eqb (getD stamp y 0) k)));
+      }
+        where
+          longer : (fresh : Bool) → i < cond fresh (tail + 1) tail
+          longer true = omega (arith, s .waits)
+          longer false = s .waits
+
+          kept : (fresh : Bool) → getD queue i 0 ≡ getD (cond fresh (set queue tail y) queue) i 0
+          kept true = sym (getD-set-other queue tail i y 0 (λ (e : i ≡ tail). omega (arith, s .waits)))
+          kept false = refl
+
+      -- y where one leaves, else the start
+      module _ {z : ℕ} (ez : z ≡ cond way y start) where
+        pub next-below : z < length bytes / 16
+        next-below = rw ez (either way)
+          where
+            either : (b : Bool) → cond b y start < length bytes / 16
+            either true = across-near
+            either false = s .from
+
+        -- a fresh row finds room in the queue
+        pub next-room : not (eqb (getD stamp z 0) k) ≡ true → tail < 2048
+        unfolding stamped
+        next-room on =
+            omega (
+              arith,
+              nb .rows .few,
+              flood-room four-ways (length bytes / 16) k start (leaves (tableIn bytes) a b) (across (tableIn bytes)) (Reach (tableIn bytes) a b start) (s .flood) z next-below (not-true (stamped k stamp z) on),
+            )
+
+        -- what is done to a fresh z is done to y, if one leaves and y is fresh
+        done-across : {A : Type 0} (g : ℕ → A) (old : A) → cond (not (eqb (getD stamp z 0) k)) (g z) old ≡ cond (way && not (eqb (getD stamp y 0) k)) (g y) old
+        unfolding stamped
+        done-across g old = rw ez (either way)
+          where
+            either : (b : Bool) → cond (not (eqb (getD stamp (cond b y start) 0) k)) (g (cond b y start)) old ≡ cond (b && not (eqb (getD stamp y 0) k)) (g y) old
+            either true = refl
+            either false = ap (λ (t : Bool). cond (not t) (g start) old) (s .flood .begun)
+
+        pub spread-turn : {stamp′ queue′ : List ℕ} {tail′ : ℕ} → stamp′ ≡ cond (not (eqb (getD stamp z 0) k)) (set stamp z k) stamp
+            → queue′ ≡ cond (not (eqb (getD stamp z 0) k)) (set queue tail z) queue → tail′ ≡ cond (not (eqb (getD stamp z 0) k)) (tail + 1) tail
+            → Spreading bytes a b start k i x (corner + 1) stamp′ queue′ tail′
+        spread-turn es eq et = turn (es ∙ done-across (λ v. set stamp v k) stamp) (eq ∙ done-across (λ v. set queue tail v) queue) (et ∙ done-across (λ _. tail + 1) tail)
 
 -- ---- the edge rule and the vertex rule, place by place
 

@@ -1,10 +1,11 @@
 -- Places: the faces of one kind, m to a row. Place p is the face p % m of row p / m.
 use mathlib.Core.Path.{_≡_, refl, sym, ap, _∙_}
 use mathlib.Core.Bool.{Bool, true, not}
+use mathlib.Core.Logic.{inl, inr, _≢_}
 use mathlib.Core.List.{List}
 use mathlib.Core.Option.{some, none}
 use Prim.Native.Nat.{ℕ, _+_, _*_, _/_, _%_, _≤_, _<_}
-use native.Mathlib.Nat.{mod-lt, div-add-mod, lt-trans, mul-le-mul}
+use native.Mathlib.Nat.{zero-add, mod-lt, div-add-mod, lt-trans, mul-le-mul}
 use native.Mathlib.Omega.{arith}
 use borrow.Author.Tests.{not-true, not-false}
 use Rattle.rules.specs.Below.{lowest, any, all, bit, count}
@@ -40,6 +41,42 @@ Chained t base m head next = Threaded (λ p. keyOf (faceAt t base m p)) (m * t .
 
 pub places-fit : {base m n : ℕ} → Kind base m → n ≤ 2048 → m * n ≤ 12288
 places-fit kind l = mul-le-mul (kind-small kind .1) l
+
+-- ---- the face at a place, kind by kind
+
+module _ {base m : ℕ} (kind : Kind base m) where
+  pub four-else : m ≢ 6 → m ≡ 4
+  four-else = by kind
+    where
+      by : Kind base m → m ≢ 6 → m ≡ 4
+      by (inl (_, n)) _ = n
+      by (inr (inl (_, n))) off = absurd (off n)
+      by (inr (inr (_, n))) _ = n
+
+  module _ (t : Table) (p : ℕ) where
+    pub edge-at : m ≡ 6 → faceOf t (p / 6) (4 + p % 6) ≡ faceAt t base m p
+    edge-at six = by kind
+      where
+        by : Kind base m → faceOf t (p / 6) (4 + p % 6) ≡ faceAt t base m p
+        by (inl (b, n)) = absurd (omega arith)
+        by (inr (inl (b, n))) = rw (b, n)
+        by (inr (inr (b, n))) = absurd (omega arith)
+
+    pub vertex-at : base ≡ 10 → faceOf t (p / 4) (10 + p % 4) ≡ faceAt t base m p
+    vertex-at ten = by kind
+      where
+        by : Kind base m → faceOf t (p / 4) (10 + p % 4) ≡ faceAt t base m p
+        by (inl (b, n)) = absurd (omega arith)
+        by (inr (inl (b, n))) = absurd (omega arith)
+        by (inr (inr (b, n))) = rw (b, n)
+
+    pub triangle-at : m ≢ 6 → base ≢ 10 → faceOf t (p / 4) (p % 4) ≡ faceAt t base m p
+    triangle-at no-edge no-vertex = by kind
+      where
+        by : Kind base m → faceOf t (p / 4) (p % 4) ≡ faceAt t base m p
+        by (inl (b, n)) = rw (b, n, zero-add (p % 4))
+        by (inr (inl (b, n))) = absurd (no-edge n)
+        by (inr (inr (b, n))) = absurd (no-vertex b)
 
 -- ---- rows and places
 

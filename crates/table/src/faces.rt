@@ -1,7 +1,7 @@
 // The faces of a row: its triangles, edges and vertices, each as three ids.
 use crate::id_at;
 ghost use mathlib.Core.Path.{_≡_};
-ghost use Prim.Native.Nat.{_*_, _/_, _%_, _^_, _<_};
+ghost use Prim.Native.Nat.{_+_, _*_, _/_, _%_, _^_, _<_};
 ghost use lib.Dec.{eqb};
 ghost use lib.ListN.{length};
 ghost use Rattle.table.specs.Rows.{tableIn};
@@ -101,6 +101,19 @@ pub fn face_of(rows: &[u8], row: usize, face: usize) -> Face
     }
 }
 
+// The vertex at a corner of a row: its id three times, read once.
+fn vertex_of(rows: &[u8], row: usize, corner: usize) -> Face
+    requires { ⌜ (row < length (now rows) / 16) × (corner < 4) ⌝ }
+    ensures { λ r. ⌜ r ≡ faceOf (tableIn (now (rows .entry))) row (10 + corner) ⌝ }
+{
+    let id = id_at(rows, row, corner);
+    Face {
+        a: id,
+        b: id,
+        c: id,
+    }
+}
+
 pub(crate) fn key_of(f: Face) -> usize
     ensures { λ r. ⌜ r ≡ keyOf f ⌝ }
 {
@@ -126,16 +139,16 @@ pub(crate) fn row_of(place: usize, m: usize) -> usize
     pick(m == 4, place / 4, place / 6)
 }
 
-fn within_row(place: usize, m: usize) -> usize
-    ensures { λ r. ⌜ r ≡ cond (eqb m 4) (place % 4) (place % 6) ⌝ }
-{
-    pick(m == 4, place % 4, place % 6)
-}
-
-// The face at a place: of the faces from `base` on, `m` to a row.
+// The face at a place: of the faces from `base` on, `m` to a row. Each kind has its own constants, with which it is quick.
 pub(crate) fn face_at(rows: &[u8], base: usize, m: usize, place: usize) -> Face
     requires { ⌜ Kind base m × (place < m * (length (now rows) / 16)) ⌝ }
     ensures { λ r. ⌜ r ≡ faceAt (tableIn (now (rows .entry))) base m place ⌝ }
 {
-    face_of(rows, row_of(place, m), base + within_row(place, m))
+    if m == 6 {
+        return face_of(rows, place / 6, 4 + place % 6);
+    }
+    if base == 10 {
+        return vertex_of(rows, place / 4, place % 4);
+    }
+    face_of(rows, place / 4, place % 4)
 }

@@ -1,27 +1,40 @@
-use Prim.Native.Nat.{_/_, _%_}
+use Rattle.table.specs.Places.{four-else, edge-at, vertex-at, triangle-at}
+use Rattle.table.specs.Rows.{tableIn}
 use mathlib.Core.Path.{_∙_}
-use Rattle.rules.specs.Laws.Places.{row-below}
-use Rattle.table.specs.Faces.{kind-small, four-or-six}
+use borrow.Author.Needs.{needs}
 use native.Mathlib.Omega.{arith}
-use native.Mathlib.Nat.{mod-lt}
 use Rattle.table.proofs.faces.face_at.Statement.{statement}
 use Rattle.table.proofs.faces.face_at.Tie as tie
 
-row-of-requires : tie.Need-row-of-requires
-row-of-requires c κs = tt
-
-within-row-requires : tie.Need-within-row-requires
-within-row-requires c κs = tt
-
 add-face-of : tie.Need-add-face-of
-add-face-of c = omega (arith, kind-small (c .before .before .before .pre .0) .2, (c .within-row .ensures ∙ four-or-six (c .before .before .before .pre .0) (λ n. c .before .before .before .args .place % n)), mod-lt (c .before .before .before .args .place) (kind-small (c .before .before .before .pre .0) .0))
+add-face-of c = search needs
 
 face-of-requires : tie.Need-face-of-requires
-face-of-requires c κs = (rw (c .before .row-of .ensures ∙ four-or-six (c .before .before .before .pre .0) (λ n. c .before .before .before .args .place / n)) (row-below (kind-small (c .before .before .before .pre .0) .0) _ _ (c .before .before .before .pre .1)), omega (arith, kind-small (c .before .before .before .pre .0) .2, (c .within-row .ensures ∙ four-or-six (c .before .before .before .pre .0) (λ n. c .before .before .before .args .place % n)), mod-lt (c .before .before .before .args .place) (kind-small (c .before .before .before .pre .0) .0)))
+face-of-requires c κs = (omega (arith, rw (c .if1 .taken) at (c .before .before .pre .1)), search needs)
 
 returns : tie.Need-returns
-returns c = rw (← (c .before .within-row .ensures ∙ four-or-six (c .before .before .before .before .pre .0) (λ n. c .before .before .before .before .args .place % n)), ← (c .before .before .row-of .ensures ∙ four-or-six (c .before .before .before .before .pre .0) (λ n. c .before .before .before .before .args .place / n))) (c .face-of .ensures)
+returns c = c .face-of .ensures ∙ edge-at (c .before .before .before .pre .0) (tableIn (c .before .before .before .args .rows .now)) (c .before .before .before .args .place) (c .before .if1 .taken)
+
+vertex-of-requires : tie.Need-vertex-of-requires
+vertex-of-requires c κs = (omega (arith, rw (four-else (c .before .before .before .pre .0) (c .before .if1 .left)) at (c .before .before .before .pre .1)), search needs)
+
+returns-2 : tie.Need-returns-2
+returns-2 c = c .vertex-of .ensures ∙ vertex-at (c .before .before .before .before .pre .0) (tableIn (c .before .before .before .before .args .rows .now)) (c .before .before .before .before .args .place) (c .before .if2 .taken)
+
+face-of-requires-2 : tie.Need-face-of-requires-2
+face-of-requires-2 c κs = (omega (arith, rw (four-else (c .before .before .before .pre .0) (c .before .if1 .left)) at (c .before .before .before .pre .1)), search needs)
+
+returns-3 : tie.Need-returns-3
+returns-3 c = c .face-of2 .ensures ∙ triangle-at (c .before .before .before .before .pre .0) (tableIn (c .before .before .before .before .args .rows .now)) (c .before .before .before .before .args .place) (c .before .before .if1 .left) (c .before .if2 .left)
 
 pub face-at-spec : {M : Type 1} → statement M
 face-at-spec =
-    tie.close (tie.spec row-of-requires within-row-requires add-face-of face-of-requires returns)
+    tie.close
+    (tie.spec
+    add-face-of
+    face-of-requires
+    returns
+    vertex-of-requires
+    returns-2
+    face-of-requires-2
+    returns-3)
