@@ -13,10 +13,10 @@ use Rattle.rules.specs.Laws.Below.{none-any}
 use Rattle.rules.specs.Laws.Count.{without, count-without, is-without, count-not}
 use Rattle.rules.specs.Laws.Lists.{Among}
 use Rattle.rules.specs.Laws.Joined.{Picked, stay, chain-ends, chain-passes}
-use Rattle.rules.specs.Reading.Rows.{one-corner, Holds, holds-reads}
+use Rattle.rules.specs.Reading.Rows.{one-corner}
 use Rattle.rules.specs.Reading.Neighbours.{Neighbours, neighbours-read, neighbours-back}
 use Rattle.rules.specs.Reading.Closed.{Closed, across-is, across-other, edge-rule}
-use Rattle.table.specs.Holders.{both, leaves, move-good, step-is-move}
+use Rattle.table.specs.Holders.{both, leaves, move-good, step-is-move, both-reads, leaves-reads}
 use Rattle.growth.specs.Free.{touches, bothFree, touched}
 
 -- x is a row that holds a and b
@@ -47,14 +47,6 @@ pub record Walked (t : Table) (other : ℕ → Bool) (a b row last from x : ℕ)
   pub beside : Beside t a b from x
   pub off : (z : ℕ) → Among z seen → other z ≡ false
   pub stays : (z y : ℕ) → Among z seen → Move t a b z y → Among y seen ⊎ (z ≡ x) ⊎ (z ≡ last)
-
-both-reads : (t : Table) (a b s : ℕ) → (both t a b s ≡ true) ↔ (Holds t s a × Holds t s b)
-unfolding both
-both-reads t a b s = and-reads (holds-reads t s a) (holds-reads t s b)
-
-leaves-reads : (t : Table) (a b x c : ℕ) → (leaves t a b x c ≡ true) ↔ ((t .id x c ≢ a) × (t .id x c ≢ b))
-unfolding leaves
-leaves-reads t a b x c = and-reads (not-reads (eqb-reads (t .id x c) a)) (not-reads (eqb-reads (t .id x c) b))
 
 module _ {t : Table} {a b from x : ℕ} where
   pub onward-none : Beside t a b from x → Onward t a b from x 0 from

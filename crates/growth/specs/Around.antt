@@ -5,7 +5,6 @@ use mathlib.Core.Bool.{Bool, true, false, cond}
 use mathlib.Core.List.{List, [], _∷_, List·Memᴰ·not-nil, List·Memᴰ·eq-of-singleton}
 use Prim.Native.Nat.{ℕ, _+_, _*_, _/_, _≤_, _<_}
 use native.Mathlib.Omega.{arith}
-use lib.Dec.{lit≤}
 use lib.ListN.{length, getD}
 use Rattle.rules.specs.Below.{bit, sum, count, pick}
 use Rattle.rules.specs.Laws.Truth.{true-or-false}
@@ -29,10 +28,6 @@ ground-surrounds marks r ground m l = record {
 pub corner-asked : {neighbours marks : List ℕ} {r : ℕ} → Surrounded neighbours marks r → (c : ℕ) → c < 4
     → (4 * r + c < length neighbours) × (r < length marks) × (getD neighbours (4 * r + c) 0 < length marks)
 corner-asked s c l = (s .listed c l, s .here, s .across c l)
-
-pub one-at-most : (b : Bool) → cond b 1 0 ≤ 1
-one-at-most true = lit≤ tt
-one-at-most false = lit≤ tt
 
 -- ---- n numbers were asked: so many pass, and the last that does
 

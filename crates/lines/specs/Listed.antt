@@ -13,8 +13,9 @@ use Rattle.rules.specs.Job.{track, headerOf, rowsTable, tableOfJob, marksOfJob,
 use Rattle.rules.specs.Laws.Lists.{gather-same, tabulate-length}
 use Rattle.rules.specs.Laws.Proposals.{answers-length}
 use Rattle.rules.specs.Laws.Written.{written-at}
-use Rattle.rules.specs.Reading.Room.{at-most-2N, skin-words}
-use Rattle.rules.specs.Reading.Codes.{limits-read, laid-out-reads, run-accepted, run-code, accepted-closed, accepted-header}
+use Rattle.rules.specs.Reading.Room.{skin-words}
+use Rattle.rules.specs.Reading.Codes.{limits-read, laid-out-reads, run-accepted, run-code, accepted-header}
+use Rattle.rules.specs.Reading.Small.{triangles-small}
 use Rattle.job.specs.declared.Reading.{Reading}
 use Rattle.job.specs.declared.Reading.the-variants.{Short, Limits, Layout, Laid}
 use Rattle.job.specs.Reading.{header, readingOf}
@@ -56,14 +57,7 @@ module _ (job : List ℕ) {o : Outcome} {answers marks triangles work : List ℕ
         rw (le-ltb (length job) 32 (omega (arith, out .1, out .0 .0 .1)), limits-read (headerOf job) .1 limits, laid-out-reads (headerOf job) job .1 out)
 
     few-triangles : o .triangles ≤ 4096
-    unfolding accepted tableOfJob rowsTable tableOf
-    few-triangles =
-        omega (
-          arith,
-          ap (λ (r : Result). r .triangles) (is-run ∙ run-accepted job zeros (sym (run-code job zeros) ∙ ran)),
-          at-most-2N (tableOfJob track job) (insideIn (finalMarks (tableOfJob track job) (marksOfJob track job) (proposalsOfJob track job))) (accepted-closed job zeros ran) refl,
-          accepted-header job zeros ran .0 .0 .1 .1,
-        )
+    few-triangles = omega (arith, ap (λ (r : Result). r .triangles) is-run, triangles-small job zeros)
 
     -- p was read from the header
     module _ {p : ℕ} (ep : p ≡ proposalsIn (readingOf job)) where

@@ -7,3 +7,4 @@ pub mod Ring
 pub mod Answers
 pub mod Codes
 pub mod Room
+pub mod Small

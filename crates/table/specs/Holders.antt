@@ -1,6 +1,6 @@
 -- The rows that hold an edge or a vertex: whether they are joined is found by a flood from one of them.
 use mathlib.Core.Path.{_≡_, refl, sym, ap, _∙_, subst}
-use mathlib.Core.Logic.{_⊎_, inl, inr, ⊎-elim, _≢_}
+use mathlib.Core.Logic.{_⊎_, inl, inr, ⊎-elim, _↔_, _≢_}
 use mathlib.Core.Bool.{Bool, true, false, not, _&&_, cond, and-assoc, and-true, and-self}
 use mathlib.Core.List.{List, [], _∷_}
 use mathlib.Core.Option.{some, none}
@@ -10,13 +10,13 @@ use native.Mathlib.Omega.{arith}
 use lib.Dec.{eqb, lit<}
 use lib.ListN.{length, getD, set, replicate, length-replicate, getD-replicate}
 use lib.Seq.{getD-set-other}
-use borrow.Author.Tests.{eqb-true, eqb-false, not-true, not-false}
+use borrow.Author.Tests.{eqb-true, not-true, not-false}
 use Rattle.rules.specs.Below.{lowest, any, all, gather, tabulate, count, pick}
 use Rattle.rules.specs.Joined.{connected}
 use Rattle.rules.specs.Shape.{edgeTable, vertices}
 use Rattle.rules.specs.Table.{Table, holds, neighbours, across, holdsFace, faceJoined, facesJoined, edgesJoined, verticesJoined}
 use Rattle.rules.specs.Laws.Below.{any-some, all-same}
-use Rattle.rules.specs.Laws.Truth.{true-or-false, not-both, same-or-not, and-first, and-second, and-both}
+use Rattle.rules.specs.Laws.Truth.{true-or-false, not-both, same-or-not, and-first, and-both, not-reads, and-reads, eqb-reads}
 use Rattle.rules.specs.Laws.Count.{TheOther, the-other, count-same, count-not}
 use Rattle.rules.specs.Laws.Lists.{pick-same}
 use Rattle.rules.specs.Laws.Places.{row-of, within-row}
@@ -115,12 +115,9 @@ four-ways = lit< tt
 abbrev pub Reach : Table → ℕ → ℕ → ℕ → ℕ → Type 0
 Reach t a b start = Chain (Picked (t .rows) (both t a b)) (λ x y. neighbours t x y ≡ true) start
 
-leaves-is : (t : Table) (a b x c : ℕ) → leaves t a b x c ≡ true → (t .id x c ≢ a) × (t .id x c ≢ b)
+pub leaves-reads : (t : Table) (a b x c : ℕ) → (leaves t a b x c ≡ true) ↔ ((t .id x c ≢ a) × (t .id x c ≢ b))
 unfolding leaves
-leaves-is t a b x c e = (
-  eqb-false (t .id x c) a (not-true (eqb (t .id x c) a) (and-first (not (eqb (t .id x c) a)) (not (eqb (t .id x c) b)) e)),
-  eqb-false (t .id x c) b (not-true (eqb (t .id x c) b) (and-second (not (eqb (t .id x c) a)) (not (eqb (t .id x c) b)) e)),
-)
+leaves-reads t a b x c = and-reads (not-reads (eqb-reads (t .id x c) a)) (not-reads (eqb-reads (t .id x c) b))
 
 leaves-not : (t : Table) (a b x c : ℕ) → leaves t a b x c ≡ false → (t .id x c ≡ a) ⊎ (t .id x c ≡ b)
 unfolding leaves
@@ -128,14 +125,9 @@ leaves-not t a b x c e =
     ⊎-elim (λ i. inl (eqb-true (t .id x c) a i)) (λ n. ⊎-elim (λ j. inr (eqb-true (t .id x c) b j)) (λ o. absurd (not-both (and-both (ap not n) (ap not o)) e)) (true-or-false (eqb (t .id x c) b)))
     (true-or-false (eqb (t .id x c) a))
 
-module _ (t : Table) (a b : ℕ) where
-  both-holds : (s : ℕ) → both t a b s ≡ true → Holds t s a × Holds t s b
-  unfolding both
-  both-holds s e = (holds-reads t s a .0 (and-first (holds t s a) (holds t s b) e), holds-reads t s b .0 (and-second (holds t s a) (holds t s b) e))
-
-  holds-both : (s : ℕ) → Holds t s a → Holds t s b → both t a b s ≡ true
-  unfolding both
-  holds-both s h k = and-both (holds-reads t s a .1 h) (holds-reads t s b .1 k)
+pub both-reads : (t : Table) (a b s : ℕ) → (both t a b s ≡ true) ↔ (Holds t s a × Holds t s b)
+unfolding both
+both-reads t a b s = and-reads (holds-reads t s a) (holds-reads t s b)
 
 module _ (t : Table) (four : t .corners ≡ 4) (up : (r : ℕ) → r < t .rows → Rising t r) (two : (r : ℕ) → r < t .rows → TrianglesShared t r) where
   the-across : (x c : ℕ) → x < t .rows → c < 4 → TheOther (t .rows) (Side t x c) x
@@ -148,10 +140,10 @@ module _ (t : Table) (four : t .corners ≡ 4) (up : (r : ℕ) → r < t .rows �
   pub move-good : (a b start x c : ℕ) → x < t .rows → c < 4 → Reach t a b start x → leaves t a b x c ≡ true → Reach t a b start (across t x c)
   move-good a b start x c l m reach w =
       let o = the-across x c l m in
-      let (na, nb) = leaves-is t a b x c w in
-      let (ha, hb) = both-holds t a b x (chain-ends reach .1) in
+      let (na, nb) = leaves-reads t a b x c .0 w in
+      let (ha, hb) = both-reads t a b x .0 (chain-ends reach .1) in
       rw (across-other t x c o) (chain-join reach (step (chain-ends reach) (neighbours-read t x (o .other) .1 (λ (e : x ≡ o .other). o .differs (sym e), (c, rw four m, o .is)))
-      (stay (o .below, holds-both t a b (o .other) (kept a na ha (o .is)) (kept b nb hb (o .is))) refl)))
+      (stay (o .below, both-reads t a b (o .other) .1 (kept a na ha (o .is), kept b nb hb (o .is))) refl)))
     where
       kept : (v : ℕ) → t .id x c ≢ v → Holds t x v → {y : ℕ} → Side t x c y → Holds t y v
       kept v ne (k, lk, e) {y} on = subst (Holds t y) e (on k lk (λ (f : k ≡ c). ne (ap (t .id x) (sym f) ∙ e)))
@@ -189,7 +181,7 @@ module _ (t : Table) (four : t .corners ≡ 4) (up : (r : ℕ) → r < t .rows �
         where
           shared : leaves t a b x c ≡ false → Holds t y (t .id x c)
           shared off =
-              let (ha, hb) = both-holds t a b y hy in
+              let (ha, hb) = both-reads t a b y .0 hy in
               ⊎-elim (λ e. subst (Holds t y) (sym e) ha) (λ e. subst (Holds t y) (sym e) hb) (leaves-not t a b x c off)
 
           whole : leaves t a b x c ≡ false → (k : ℕ) → k < t .corners → Holds t y (t .id x k)

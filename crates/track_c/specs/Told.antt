@@ -1,21 +1,13 @@
 -- What is told of a run in four words, and that it fits them.
-use mathlib.Core.Path.{_≡_, refl, sym, ap, _∙_, subst}
-use mathlib.Core.Logic.{⊎-elim, _≢_}
+use mathlib.Core.Path.{_≡_, ap}
 use mathlib.Core.List.{List, [], _∷_}
-use Prim.Native.Nat.{ℕ, zero, suc, _+_, _-_, _*_, _≤_, _<_}
+use Prim.Native.Nat.{ℕ, _<_}
 use native.Mathlib.Omega.{arith}
-use lib.Dec.{lit<}
 use lib.ListN.{set}
 use lib.Seq.{sets}
-use Rattle.rules.specs.Table.{tableOf}
-use Rattle.rules.specs.Proposals.{insideIn, answersTo, finalMarks, taken}
-use Rattle.rules.specs.Job.{track, headerOf, withinLimits, rowsTable, tableOfJob, marksOfJob, proposalsOfJob, Lent, Result, accepted, run}
-use Rattle.rules.specs.Laws.Truth.{same-or-not, not-both, is-true}
-use Rattle.rules.specs.Laws.Lists.{tabulate-length}
-use Rattle.rules.specs.Laws.Proposals.{answers-length, taken-few}
-use Rattle.rules.specs.Laws.First.{FirstOf}
-use Rattle.rules.specs.Reading.Room.{at-most-2N}
-use Rattle.rules.specs.Reading.Codes.{WithinLimits, limits-read, jobConditions, run-accepted, run-code, run-code-below, code-exactly, accepted-closed, accepted-header, refusal-keeps}
+use Rattle.rules.specs.Job.{track, Lent, Result, run}
+use Rattle.rules.specs.Reading.Codes.{run-code-below}
+use Rattle.rules.specs.Reading.Small.{place-small, taken-small, triangles-small}
 use Rattle.track.specs.declared.Outcome.{Outcome}
 use Rattle.track.specs.Outcomes.{result}
 
@@ -23,98 +15,24 @@ use Rattle.track.specs.Outcomes.{result}
 unfoldable pub told : Result → List ℕ
 told r = r .code ∷ r .place ∷ r .taken ∷ r .triangles ∷ []
 
-module _ (job : List ℕ) (lent : Lent) where
-  rows-is : tableOfJob track job .rows ≡ headerOf job .rows
-  unfolding tableOfJob rowsTable tableOf
-  rows-is = refl
+-- of whatever `track::run` may give
+module _ (job : List ℕ) (lent : Lent) {o : Outcome} {left : Lent} (is : result o left ≡ run track job lent) where
+  pub code-fits : o .code < 4294967296
+  code-fits = omega (arith, ap (λ (r : Result). r .code) is, run-code-below job lent)
 
-  four : tableOfJob track job .corners ≡ 4
-  unfolding tableOfJob rowsTable tableOf
-  four = refl
+  pub place-fits : o .place < 4294967296
+  place-fits = omega (arith, ap (λ (r : Result). r .place) is, place-small job lent)
 
-  module _ (z : run track job lent .code ≡ 0) where
-    is-accepted : run track job lent ≡ accepted (tableOfJob track job) (marksOfJob track job) (proposalsOfJob track job) lent
-    is-accepted = run-accepted job lent (sym (run-code job lent) ∙ z)
+  pub taken-fits : o .taken < 4294967296
+  taken-fits = omega (arith, ap (λ (r : Result). r .taken) is, taken-small job lent)
 
-    accepted-place : run track job lent .place ≡ 0
-    unfolding accepted
-    accepted-place = ap (λ (r : Result). r .place) is-accepted
+  pub triangles-fit : o .triangles < 4294967296
+  triangles-fit = omega (arith, ap (λ (r : Result). r .triangles) is, triangles-small job lent)
 
-    accepted-taken : run track job lent .taken ≤ headerOf job .proposals
-    unfolding accepted proposalsOfJob
-    accepted-taken =
-        rw is-accepted (subst (λ (n : ℕ). taken (answersTo (tableOfJob track job) (marksOfJob track job) (proposalsOfJob track job)) ≤ n)
-        (answers-length (tableOfJob track job) (marksOfJob track job) (proposalsOfJob track job) ∙ tabulate-length (headerOf job .proposals) _)
-        (taken-few (answersTo (tableOfJob track job) (marksOfJob track job) (proposalsOfJob track job))))
-
-    accepted-triangles : run track job lent .triangles ≤ 2 * tableOfJob track job .rows
-    unfolding accepted
-    accepted-triangles =
-        rw is-accepted (at-most-2N (tableOfJob track job) (insideIn (finalMarks (tableOfJob track job) (marksOfJob track job) (proposalsOfJob track job))) (accepted-closed job lent z) four)
-
-  -- where a later code is given, the limits hold
-  limits : (i place : ℕ) → 1 < i → FirstOf (jobConditions job lent) i place → WithinLimits (headerOf job)
-  limits i place l x =
-      limits-read (headerOf job) .0 (is-true (withinLimits (headerOf job)) (λ off. x .none-before 1 l 0 (λ w. not-both (limits-read (headerOf job) .1 w) off, refl)))
-
-  -- a place is a row or a vertex
-  place-of : (i place : ℕ) → i < 12 → FirstOf (jobConditions job lent) i place → place ≤ 2048
-  place-of zero place l x = omega (arith, x .holds .1)
-  place-of (suc zero) place l x = omega (arith, x .holds .1)
-  place-of (suc (suc zero)) place l x = omega (arith, x .holds .1)
-  place-of (suc (suc (suc zero))) place l x = omega (arith, x .holds .1)
-  place-of (suc (suc (suc (suc zero)))) place l x = row (x .holds .below) (limits 4 place (lit< tt) x)
-    where
-      row : place < tableOfJob track job .rows → WithinLimits (headerOf job) → place ≤ 2048
-      row p w = omega (arith, rows-is, p, w .0 .1 .1)
-  place-of (suc (suc (suc (suc (suc zero))))) place l x = omega (arith, rows-is, x .holds .below, limits 5 place (lit< tt) x .0 .1 .1)
-  place-of (suc (suc (suc (suc (suc (suc zero)))))) place l x = omega (arith, rows-is, x .holds .below, limits 6 place (lit< tt) x .0 .1 .1)
-  place-of (suc (suc (suc (suc (suc (suc (suc zero))))))) place l x = omega (arith, rows-is, x .holds .below, limits 7 place (lit< tt) x .0 .1 .1)
-  place-of (suc (suc (suc (suc (suc (suc (suc (suc zero)))))))) place l x = omega (arith, rows-is, x .holds .below, limits 8 place (lit< tt) x .0 .1 .1)
-  place-of (suc (suc (suc (suc (suc (suc (suc (suc (suc zero))))))))) place l x = omega (arith, rows-is, x .holds .below, limits 9 place (lit< tt) x .0 .1 .1)
-  place-of (suc (suc (suc (suc (suc (suc (suc (suc (suc (suc zero)))))))))) place l x = omega (arith, rows-is, x .holds .below, limits 10 place (lit< tt) x .0 .1 .1)
-  place-of (suc (suc (suc (suc (suc (suc (suc (suc (suc (suc (suc zero))))))))))) place l x = omega (arith, x .holds .below, limits 11 place (lit< tt) x .0 .0 .1)
-  place-of (suc (suc (suc (suc (suc (suc (suc (suc (suc (suc (suc (suc i)))))))))))) place l x = absurd (omega arith)
-
-  code-index : (code : ℕ) → code ≢ 0 → code ≡ 1 + (code - 1)
-  code-index code ne = omega (arith, ne)
-
-  pub place-small : run track job lent .place ≤ 2048
-  place-small =
-      ⊎-elim (λ (z : run track job lent .code ≡ 0). rw (accepted-place z) (omega arith)) (λ ne.
-      place-of (run track job lent .code - 1) (run track job lent .place) (omega (arith, run-code-below job lent, ne))
-      (code-exactly job lent (run track job lent .code - 1) (run track job lent .place) (omega (arith, run-code-below job lent, ne)) .0 (code-index (run track job lent .code) ne, refl)))
-      (same-or-not (run track job lent .code) 0)
-
-  pub taken-small : run track job lent .taken ≤ 1024
-  taken-small =
-      ⊎-elim (λ (z : run track job lent .code ≡ 0). omega (arith, accepted-taken z, accepted-header job lent z .0 .1 .1))
-      (λ ne. omega (arith, refusal-keeps job lent ne .0)) (same-or-not (run track job lent .code) 0)
-
-  pub triangles-small : run track job lent .triangles ≤ 4096
-  triangles-small =
-      ⊎-elim (λ (z : run track job lent .code ≡ 0). omega (arith, accepted-triangles z, rows-is, accepted-header job lent z .0 .0 .1 .1))
-      (λ ne. omega (arith, refusal-keeps job lent ne .1)) (same-or-not (run track job lent .code) 0)
-
-  -- ---- of whatever `track::run` may give
-
-  module _ {o : Outcome} {left : Lent} (is : result o left ≡ run track job lent) where
-    pub code-fits : o .code < 4294967296
-    code-fits = omega (arith, ap (λ (r : Result). r .code) is, run-code-below job lent)
-
-    pub place-fits : o .place < 4294967296
-    place-fits = omega (arith, ap (λ (r : Result). r .place) is, place-small)
-
-    pub taken-fits : o .taken < 4294967296
-    taken-fits = omega (arith, ap (λ (r : Result). r .taken) is, taken-small)
-
-    pub triangles-fit : o .triangles < 4294967296
-    triangles-fit = omega (arith, ap (λ (r : Result). r .triangles) is, triangles-small)
-
-    pub all-told : {a b c d : ℕ} (outcome : List ℕ) → a ≡ o .code → b ≡ o .place → c ≡ o .taken → d ≡ o .triangles
-        → (set (set (set (set outcome 0 a) 1 b) 2 c) 3 d ≡ sets outcome 0 (told (run track job lent))) × (left ≡ run track job lent .left)
-    unfolding told
-    all-told outcome ea eb ec ed = (
-      rw (ea, eb, ec, ed, ← is),
-      ap (λ (r : Result). r .left) is,
-    )
+  pub all-told : {a b c d : ℕ} (outcome : List ℕ) → a ≡ o .code → b ≡ o .place → c ≡ o .taken → d ≡ o .triangles
+      → (set (set (set (set outcome 0 a) 1 b) 2 c) 3 d ≡ sets outcome 0 (told (run track job lent))) × (left ≡ run track job lent .left)
+  unfolding told
+  all-told outcome ea eb ec ed = (
+    rw (ea, eb, ec, ed, ← is),
+    ap (λ (r : Result). r .left) is,
+  )

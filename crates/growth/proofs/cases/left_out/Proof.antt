@@ -3,7 +3,8 @@ use native.Mathlib.Omega.{arith}
 use native.Mathlib.Nat.{le-antisymm}
 use borrow.Author.Needs.{needs}
 use Rattle.skin.specs.Ground.{between}
-use Rattle.growth.specs.Around.{Counted, corner-asked, counted-none, counted-small, counted-more, one-at-most}
+use Rattle.growth.specs.Around.{Counted, corner-asked, counted-none, counted-small, counted-more}
+use Rattle.table.specs.Walk.{one-at-most}
 use Rattle.growth.proofs.cases.left_out.Statement.{statement}
 use Rattle.growth.proofs.cases.left_out.Tie as tie
 
