@@ -1,7 +1,8 @@
 //! Runs the proved engine and `plain` on the same job and compares the outcome
 //! and every byte and word of every lent buffer.
 
-use jobs::{Job, Lent};
+use common::Buffers;
+use jobs::Job;
 use std::fmt::Debug;
 use std::fs;
 use std::path::PathBuf;
@@ -27,23 +28,15 @@ impl Comparer {
         }
     }
 
-    /// Runs both on copies of `lent` and panics if they disagree. `name` tells
+    /// Runs both on copies of `buffers` and panics if they disagree. `name` tells
     /// the job in the message and names the file with its bytes.
-    pub fn compare(&mut self, name: &str, kind: &str, job: &[u8], lent: &Lent) {
-        let mut by_track = lent.clone();
-        let mut by_plain = lent.clone();
-        let track = track::run(
-            job,
-            &mut by_track.answers,
-            &mut by_track.final_marks,
-            &mut by_track.triangles,
-            &mut by_track.work,
-        );
-        let track = [track.code, track.place, track.taken, track.triangles];
-        let plain = by_plain.run_plain(job);
-        let plain = [plain.code, plain.place, plain.taken, plain.triangles];
+    pub fn compare(&mut self, name: &str, kind: &str, job: &[u8], buffers: &Buffers) {
+        let mut by_track = buffers.clone();
+        let mut by_plain = buffers.clone();
+        let track = track::run(job, by_track.lend());
+        let plain = plain::run(job, by_plain.lend());
         let differences = [
-            first_difference("outcome", &track, &plain),
+            (track != plain).then(|| "outcomes differ".to_string()),
             first_difference("answers", &by_track.answers, &by_plain.answers),
             first_difference("final marks", &by_track.final_marks, &by_plain.final_marks),
             first_difference("triangles", &by_track.triangles, &by_plain.triangles),
@@ -57,14 +50,13 @@ impl Comparer {
                 Err(error) => format!("job not kept: {error}"),
             };
             panic!(
-                "{name} ({kind}): code, place, taken, triangles are {track:?} by track and \
-                 {plain:?} by plain; {}; {kept}",
+                "{name} ({kind}): {track:?} by track and {plain:?} by plain; {}; {kept}",
                 differences.join("; ")
             );
         }
         self.jobs += 1;
-        self.codes[plain[0] as usize] += 1;
-        if plain[0] == 0 {
+        self.codes[plain.code as usize] += 1;
+        if plain.code == 0 {
             let proposals = Job::from_bytes(job).map_or(0, |job| job.proposals.len());
             for &answer in &by_plain.answers[..proposals] {
                 self.answers[usize::from(answer)] += 1;

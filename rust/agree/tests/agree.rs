@@ -2,7 +2,8 @@
 //! jobs and AGREE_SEED the number of the first.
 
 use agree::Comparer;
-use jobs::{cases, tables, Job, Lent, Random, Rooms, Table};
+use common::{Rooms, FEWEST_IDS, MOST_IDS, MOST_PROPOSALS, MOST_ROWS};
+use jobs::{cases, tables, Job, Random, Table};
 use std::{env, fs, thread};
 
 const STORED: &str = concat!(env!("CARGO_MANIFEST_DIR"), "/../../jobs");
@@ -28,9 +29,9 @@ fn setting(name: &str, usual: u64) -> u64 {
 
 fn compare_case(comparer: &mut Comparer, number: u64, most: usize) {
     let case = cases::case(number, most);
-    let lent = Lent::random(case.rooms, &mut Random::new(!number));
+    let buffers = Random::new(!number).buffers(case.rooms);
     let name = format!("case-{number}-of-{most}");
-    comparer.compare(&name, &case.kind, &case.job, &lent);
+    comparer.compare(&name, &case.kind, &case.job, &buffers);
 }
 
 #[test]
@@ -64,11 +65,11 @@ fn large_jobs() {
         let mut comparer = comparer();
         for number in (first..).take(rounds as usize) {
             let random = &mut Random::new(number);
-            for (family, table) in tables::each_family(2048, random) {
+            for (family, table) in tables::each_family(MOST_ROWS, random) {
                 let case = cases::case_on(family, &table, random);
-                let lent = Lent::random(case.rooms, random);
+                let buffers = random.buffers(case.rooms);
                 let name = format!("large-{number}-{}", family.replace(' ', "-"));
-                comparer.compare(&name, &case.kind, &case.job, &lent);
+                comparer.compare(&name, &case.kind, &case.job, &buffers);
             }
         }
         comparer.report("large jobs");
@@ -89,8 +90,9 @@ fn stored_jobs() {
             let path = entry.expect("an entry").path();
             if path.extension().is_some_and(|ending| ending == "job") {
                 let job = fs::read(&path).expect("a stored job");
-                let lent = Lent::random(Rooms::exact(2049, 1025), random);
-                comparer.compare("stored", &path.display().to_string(), &job, &lent);
+                let rooms = Rooms::exact(MOST_ROWS + 1, MOST_PROPOSALS + 1);
+                let buffers = random.buffers(rooms);
+                comparer.compare("stored", &path.display().to_string(), &job, &buffers);
             }
         }
         comparer.report("stored jobs");
@@ -106,19 +108,19 @@ fn every_length_and_byte() {
         let random = &mut Random::new(3);
         for name in ["a", "b"] {
             let job = fs::read(format!("{STORED}/{name}.job")).expect("a stored job");
-            let lent = Lent::random(Rooms::exact(13, 9), random);
+            let buffers = random.buffers(Rooms::exact(13, 9));
             for at in 0..job.len() {
-                comparer.compare("cut", name, &job[..at], &lent);
+                comparer.compare("cut", name, &job[..at], &buffers);
                 for change in 1..=255 {
                     let mut changed = job.clone();
                     changed[at] ^= change;
-                    comparer.compare("byte", name, &changed, &lent);
+                    comparer.compare("byte", name, &changed, &buffers);
                 }
             }
             let mut longer = job.clone();
             for _ in 0..40 {
                 longer.push(random.bits() as u8);
-                comparer.compare("longer", name, &longer, &lent);
+                comparer.compare("longer", name, &longer, &buffers);
             }
         }
         comparer.report("every length and byte");
@@ -132,9 +134,8 @@ fn every_limit() {
         let mut comparer = comparer();
         let random = &mut Random::new(6);
         let mut compare = |job: &Job| {
-            let rooms = Rooms::exact(job.rows.len(), job.proposals.len());
-            let kind = format!("{:?}", &job.header()[..3]);
-            comparer.compare("limit", &kind, &job.bytes(), &Lent::random(rooms, random));
+            let kind = format!("{:?}", job.counts());
+            comparer.compare("limit", &kind, &job.bytes(), &random.buffers(job.rooms()));
         };
         let mut fewer = tables::simplex();
         fewer.rows.pop();
@@ -147,12 +148,14 @@ fn every_limit() {
         ];
         for table in &tables {
             let mut job = table.job();
-            for ids in [4, 5, 1023, 1024, 1025] {
+            let [fewest, most] = [FEWEST_IDS as u32, MOST_IDS as u32];
+            for ids in [fewest - 1, fewest, most - 1, most, most + 1] {
                 job.ids = ids;
                 compare(&job);
             }
-            job.ids = 1024;
-            for proposals in [1, 1023, 1024, 1025] {
+            job.ids = most;
+            let most = MOST_PROPOSALS as u32;
+            for proposals in [1, most - 1, most, most + 1] {
                 job.proposals = (0..proposals).map(|i| [i, 1 + i / 7 % 2]).collect();
                 compare(&job);
             }
@@ -171,8 +174,8 @@ fn every_room() {
         let job = fs::read(format!("{STORED}/a.job")).expect("a stored job");
         let exact = Rooms::exact(5, 7);
         let mut compare = |rooms: Rooms| {
-            let lent = Lent::random(rooms, random);
-            comparer.compare("room", &format!("{rooms:?}"), &job, &lent);
+            let buffers = random.buffers(rooms);
+            comparer.compare("room", &format!("{rooms:?}"), &job, &buffers);
         };
         for room in 0..40 {
             compare(Rooms {
@@ -231,16 +234,16 @@ fn compare_starts(comparer: &mut Comparer, table: &Table, random: &mut Random) {
         for (bit, &row) in finite.iter().enumerate() {
             job.marks[row] = (marking >> bit & 1) as u8;
         }
-        let lent = Lent::random(Rooms::exact(job.rows.len(), 1), random);
+        let buffers = random.buffers(Rooms::exact(job.rows.len(), 1));
         let clean_before = comparer.codes[0];
-        comparer.compare("start", "every start", &job.bytes(), &lent);
+        comparer.compare("start", "every start", &job.bytes(), &buffers);
         if comparer.codes[0] == clean_before {
             continue;
         }
         for row in 0..table.rows.len() as u32 {
             for kind in [1, 2] {
                 job.proposals = vec![[row, kind]];
-                comparer.compare("proposal", "every proposal", &job.bytes(), &lent);
+                comparer.compare("proposal", "every proposal", &job.bytes(), &buffers);
             }
         }
     }

@@ -1,8 +1,9 @@
 //! Jobs that stop early. The proved engine has no stage times of its own; a
 //! refused job shows the time up to its code.
 
-use crate::{families, micros, time, MOST_ROWS};
-use jobs::{growth, tables, Job, Lent, Random, Rooms, Table};
+use crate::{families, micros, time};
+use common::{Buffers, EDGES, MOST_PROPOSALS, MOST_ROWS};
+use jobs::{growth, tables, Job, Random, Table};
 use std::collections::HashMap;
 use std::hash::Hash;
 
@@ -34,16 +35,16 @@ fn stopping(table: &Table, random: &mut Random) -> Vec<(u32, Job)> {
     not_after.rows[last] = not_after.rows[last - 1];
 
     // Without the row whose lowest neighbour is the highest.
-    let mut lent = Lent::zeros(Rooms::exact(table.rows.len(), 0));
-    lent.run_plain(&table.job().bytes());
-    let lowest = |row: &usize| lent.work[4 * row..4 * row + 4].iter().min();
-    let latest_open = (0..=last).max_by_key(lowest);
     let mut open = table.job();
+    let mut buffers = Buffers::zeros(open.rooms());
+    plain::run(&open.bytes(), buffers.lend());
+    let lowest = |row: &usize| buffers.work[4 * row..4 * row + 4].iter().min();
+    let latest_open = (0..=last).max_by_key(lowest);
     open.rows.remove(latest_open.expect("a table has rows"));
     open.marks.pop();
 
-    let edges = first_rows(table, |[a, b, c, d]| {
-        vec![[a, b], [a, c], [a, d], [b, c], [b, d], [c, d]]
+    let edges = first_rows(table, |row| {
+        EDGES.map(|[a, b, ..]| [row[a], row[b]]).to_vec()
     });
     let edge = latest(&edges);
     let vertices = first_rows(table, |row| row.to_vec());
@@ -52,7 +53,7 @@ fn stopping(table: &Table, random: &mut Random) -> Vec<(u32, Job)> {
     let mut odd_mark = table.job();
     odd_mark.marks[0] = 2;
     let mut grown = table.job();
-    grown.marks = growth::grown_marks(table, 1024, random);
+    grown.marks = growth::grown_marks(table, MOST_PROPOSALS, random);
     vec![
         (5, not_rising),
         (6, not_after),

@@ -3,12 +3,11 @@
 
 mod early;
 
-use jobs::{growth, tables, Job, Lent, Random, Rooms, Table};
+use common::{Buffers, MOST_PROPOSALS, MOST_ROWS};
+use jobs::{growth, tables, Job, Random, Table};
 use plain::Stages;
 use std::time::{Duration, Instant};
 
-const MOST_ROWS: usize = 2048;
-const PROPOSALS: usize = 1024;
 /// Time given to each job, for both engines together.
 const TIME: Duration = Duration::from_millis(300);
 
@@ -102,12 +101,12 @@ fn jobs_to_time(random: &mut Random) -> Vec<(&'static str, Job)> {
     for (title, table) in families(MOST_ROWS, random) {
         let empty = table.job();
         let grown = Job {
-            marks: growth::grown_marks(&table, PROPOSALS, random),
+            marks: growth::grown_marks(&table, MOST_PROPOSALS, random),
             ..table.job()
         };
         for (start, adds) in [(empty, 80), (grown, 60)] {
             let mut proposed = start.clone();
-            growth::propose(&mut proposed, PROPOSALS, adds, random);
+            growth::propose(&mut proposed, MOST_PROPOSALS, adds, random);
             jobs.push((title, start));
             jobs.push((title, proposed));
         }
@@ -126,50 +125,33 @@ struct Times {
 }
 
 fn time(job: &Job) -> Times {
-    let mut lent = Lent::zeros(Rooms::exact(job.rows.len(), job.proposals.len()));
+    let mut buffers = Buffers::zeros(job.rooms());
     let job = job.bytes();
-    let outcome = run_track(&job, &mut lent);
+    let outcome = track::run(&job, buffers.lend());
     let mut times = Times {
         code: outcome.code,
         taken: outcome.taken,
         triangles: outcome.triangles,
         track: Duration::MAX,
         plain: Duration::MAX,
-        stages: run_timed(&job, &mut lent),
+        stages: stages(&job, &mut buffers),
     };
     let begun = Instant::now();
     while begun.elapsed() < TIME {
         let before = Instant::now();
-        run_track(&job, &mut lent);
+        track::run(&job, buffers.lend());
         times.track = times.track.min(before.elapsed());
         let before = Instant::now();
-        lent.run_plain(&job);
+        plain::run(&job, buffers.lend());
         times.plain = times.plain.min(before.elapsed());
-        times.stages = least(&times.stages, &run_timed(&job, &mut lent));
+        times.stages = least(&times.stages, &stages(&job, &mut buffers));
     }
     times
 }
 
-fn run_track(job: &[u8], lent: &mut Lent) -> track::Outcome {
-    track::run(
-        job,
-        &mut lent.answers,
-        &mut lent.final_marks,
-        &mut lent.triangles,
-        &mut lent.work,
-    )
-}
-
-fn run_timed(job: &[u8], lent: &mut Lent) -> Stages {
+fn stages(job: &[u8], buffers: &mut Buffers) -> Stages {
     let mut stages = Stages::default();
-    plain::run_timed(
-        job,
-        &mut lent.answers,
-        &mut lent.final_marks,
-        &mut lent.triangles,
-        &mut lent.work,
-        &mut stages,
-    );
+    plain::run_timed(job, buffers.lend(), &mut stages);
     stages
 }
 

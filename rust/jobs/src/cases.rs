@@ -1,7 +1,8 @@
 //! Random jobs of every sort, with the room lent for them.
 
 use crate::growth::{full_marks, grown_marks, propose, random_marks};
-use crate::{tables, Job, Random, Rooms, Table};
+use crate::{tables, Job, Random, Table};
+use common::{Rooms, FEWEST_IDS, HEADER_BYTES, HEADER_WORDS, MOST_IDS, MOST_PROPOSALS, MOST_ROWS};
 
 /// A job and the lengths of the buffers lent for it.
 #[derive(Clone, Debug)]
@@ -27,12 +28,12 @@ pub fn case_on(family: &str, table: &Table, random: &mut Random) -> Case {
     let mut job = table.job();
     job.marks = marks;
     if random.chance(10) {
-        job.ids = (job.ids + random.within(1, 20) as u32).min(1024);
+        job.ids = (job.ids + random.within(1, 20) as u32).min(MOST_IDS as u32);
     }
     let proposals = match random.below(4) {
         0 => random.below(8),
         1 => random.below(64),
-        _ => random.below((3 * table.rows.len()).min(1024) + 1),
+        _ => random.below((3 * table.rows.len()).min(MOST_PROPOSALS) + 1),
     };
     let adds = random.pick(&[10, 30, 50, 70, 90]);
     propose(&mut job, proposals, adds, random);
@@ -42,7 +43,7 @@ pub fn case_on(family: &str, table: &Table, random: &mut Random) -> Case {
             kind += &format!(", {}", damage(&mut job, random));
         }
     }
-    let mut rooms = Rooms::exact(job.rows.len(), job.proposals.len());
+    let mut rooms = job.rooms();
     let mut bytes = job.bytes();
     if random.chance(10) {
         kind += &format!(", {}", damage_bytes(&mut bytes, random));
@@ -208,7 +209,7 @@ fn glue(job: &mut Job, random: &mut Random) -> &'static str {
     let (_, second) = tables::any(job.rows.len().max(5), random);
     let shared = random.pick(&[0, 1, 1, 1, 2, 2, 2, 3]);
     match tables::glued(&first, &second, shared, random) {
-        Some(both) if both.rows.len() <= 2048 && both.ids <= 1024 => {
+        Some(both) if both.rows.len() <= MOST_ROWS && both.ids as usize <= MOST_IDS => {
             let both = if random.chance(50) {
                 tables::relabelled(&both, random)
             } else {
@@ -223,16 +224,27 @@ fn glue(job: &mut Job, random: &mut Random) -> &'static str {
     }
 }
 
+/// Counts at a limit and one beyond it.
+const AT_LIMITS: [usize; 7] = [
+    0,
+    FEWEST_IDS - 1,
+    FEWEST_IDS,
+    MOST_IDS,
+    MOST_IDS + 1,
+    MOST_ROWS,
+    MOST_ROWS + 1,
+];
+
 /// Changes the header, the length or any byte.
 fn damage_bytes(bytes: &mut Vec<u8>, random: &mut Random) -> &'static str {
     match random.below(9) {
         0..3 => {
-            let at = 4 * random.below(8);
+            let at = 4 * random.below(HEADER_WORDS);
             let word = u32::from_le_bytes([bytes[at], bytes[at + 1], bytes[at + 2], bytes[at + 3]]);
             let changed = match random.below(8) {
                 0 => word.wrapping_add(1),
                 1 => word.wrapping_sub(1),
-                2 => random.pick(&[0, 4, 5, 1024, 1025, 2048, 2049]),
+                2 => random.pick(&AT_LIMITS) as u32,
                 3 => u32::MAX,
                 4 => word ^ 1 << random.below(32),
                 5 => word.wrapping_add(1 << random.within(8, 31)),
@@ -247,7 +259,7 @@ fn damage_bytes(bytes: &mut Vec<u8>, random: &mut Random) -> &'static str {
             "cut"
         }
         4 => {
-            bytes.truncate(random.below(34));
+            bytes.truncate(random.below(HEADER_BYTES + 2));
             "cut within the header"
         }
         5 => {

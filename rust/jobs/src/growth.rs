@@ -1,6 +1,7 @@
 //! Starting marks and proposals that lead somewhere.
 
-use crate::{Job, Lent, Random, Rooms, Table};
+use crate::{Job, Random, Table};
+use common::{Buffers, MOST_PROPOSALS};
 
 /// Marks that a run from empty marks leaves, after `steps` proposals of which
 /// most are adds.
@@ -9,7 +10,7 @@ pub fn grown_marks(table: &Table, steps: usize, random: &mut Random) -> Vec<u8> 
     let mut marks = job.marks.clone();
     let mut left = steps;
     while left > 0 {
-        let now = left.min(1024);
+        let now = left.min(MOST_PROPOSALS);
         job.proposals.clear();
         propose(&mut job, now, 90, random);
         marks = Standing::after(&job).map_or(marks, |standing| standing.marks);
@@ -84,10 +85,11 @@ struct Standing {
 
 impl Standing {
     fn after(job: &Job) -> Option<Standing> {
-        let mut lent = Lent::zeros(Rooms::exact(job.rows.len(), job.proposals.len()));
-        (lent.run_plain(&job.bytes()).code == 0).then_some(Standing {
-            marks: lent.final_marks,
-            neighbours: lent.work,
+        let mut buffers = Buffers::zeros(job.rooms());
+        let outcome = plain::run(&job.bytes(), buffers.lend());
+        (outcome.code == 0).then_some(Standing {
+            marks: buffers.final_marks,
+            neighbours: buffers.work,
         })
     }
 }

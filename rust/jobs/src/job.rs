@@ -1,3 +1,5 @@
+use common::{Counts, Rooms, HEADER_BYTES, WORD_BYTES};
+
 /// Rows of four ids below `ids`. Generated tables are closed: rows and the
 /// ids within them rise, and each table rule holds.
 #[derive(Clone, Debug, PartialEq, Eq)]
@@ -42,18 +44,22 @@ impl Job {
     pub const ADD: u32 = 1;
     pub const REMOVE: u32 = 2;
 
-    /// The eight header words.
-    pub fn header(&self) -> [u32; 8] {
-        layout(
-            self.ids,
-            self.rows.len() as u32,
-            self.proposals.len() as u32,
-        )
+    pub fn counts(&self) -> Counts {
+        Counts {
+            ids: self.ids as usize,
+            rows: self.rows.len(),
+            proposals: self.proposals.len(),
+        }
+    }
+
+    /// The room that a run needs.
+    pub fn rooms(&self) -> Rooms {
+        self.counts().rooms()
     }
 
     pub fn bytes(&self) -> Vec<u8> {
         let mut bytes = Vec::new();
-        put_words(&mut bytes, &self.header());
+        put_words(&mut bytes, &self.counts().header());
         put_words(&mut bytes, self.rows.as_flattened());
         bytes.extend(&self.marks);
         put_words(&mut bytes, self.proposals.as_flattened());
@@ -63,29 +69,23 @@ impl Job {
     /// Reads back what `bytes` lays out. The counts need not be within their
     /// limits; the other header words and the length must fit them.
     pub fn from_bytes(bytes: &[u8]) -> Option<Job> {
-        let (header, rest) = bytes.split_at_checked(32)?;
-        let header = words(header);
-        let [ids, n, p] = [header[0], header[1], header[2]];
-        let length = 32 + 17 * u64::from(n) + 8 * u64::from(p);
-        if length != bytes.len() as u64 || header != layout(ids, n, p) {
+        let header = words(bytes.get(..HEADER_BYTES)?);
+        let counts = Counts {
+            ids: header[0] as usize,
+            rows: header[1] as usize,
+            proposals: header[2] as usize,
+        };
+        if bytes.len() != counts.length() || header != counts.header() {
             return None;
         }
-        let (rows, rest) = rest.split_at(16 * n as usize);
-        let (marks, proposals) = rest.split_at(n as usize);
+        let [rows, marks, proposals] = [counts.rows_at(), counts.marks_at(), counts.proposals_at()];
         Some(Job {
-            ids,
-            rows: groups(&words(rows)),
-            marks: marks.to_vec(),
-            proposals: groups(&words(proposals)),
+            ids: header[0],
+            rows: groups(&words(&bytes[rows..marks])),
+            marks: bytes[marks..proposals].to_vec(),
+            proposals: groups(&words(&bytes[proposals..])),
         })
     }
-}
-
-fn layout(ids: u32, n: u32, p: u32) -> [u32; 8] {
-    let marks = n.wrapping_mul(16).wrapping_add(32);
-    let proposals = marks.wrapping_add(n);
-    let length = proposals.wrapping_add(p.wrapping_mul(8));
-    [ids, n, p, 32, marks, proposals, length, 0]
 }
 
 fn put_words(bytes: &mut Vec<u8>, words: &[u32]) {
@@ -93,7 +93,7 @@ fn put_words(bytes: &mut Vec<u8>, words: &[u32]) {
 }
 
 fn words(bytes: &[u8]) -> Vec<u32> {
-    let (words, _) = bytes.as_chunks::<4>();
+    let (words, _) = bytes.as_chunks::<WORD_BYTES>();
     words.iter().map(|&word| u32::from_le_bytes(word)).collect()
 }
 

@@ -4,11 +4,9 @@
 pub mod cases;
 pub mod growth;
 mod job;
-mod lent;
 mod random;
 pub mod tables;
 pub mod text;
 
 pub use job::{Job, Table};
-pub use lent::{Lent, Rooms};
 pub use random::Random;

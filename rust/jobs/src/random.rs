@@ -1,3 +1,5 @@
+use common::{Buffers, Rooms};
+
 /// A small generator of repeatable random numbers (splitmix64).
 #[derive(Clone, Debug)]
 pub struct Random(u64);
@@ -37,6 +39,19 @@ impl Random {
     /// As `pick`, and nothing if there is nothing to pick from.
     pub fn pick_any<T: Copy>(&mut self, from: &[T]) -> Option<T> {
         (!from.is_empty()).then(|| self.pick(from))
+    }
+
+    /// Buffers with anything in them.
+    pub fn buffers(&mut self, rooms: Rooms) -> Buffers {
+        let mut bytes = |room| (0..room).map(|_| self.bits() as u8).collect();
+        let (answers, final_marks) = (bytes(rooms.answers), bytes(rooms.final_marks));
+        let mut words = |room| (0..room).map(|_| self.bits() as u32).collect();
+        Buffers {
+            answers,
+            final_marks,
+            triangles: words(rooms.triangles),
+            work: words(rooms.work),
+        }
     }
 
     pub fn shuffle<T>(&mut self, items: &mut [T]) {

@@ -9,6 +9,7 @@ pub use flips::flips;
 pub use surfaces::{projective_plane, sphere, suspension, torus_grid, torus_of_seven, Surface};
 
 use crate::{Random, Table};
+use common::MOST_IDS;
 
 /// The five rows of job A: all fours of five ids.
 pub fn simplex() -> Table {
@@ -214,7 +215,7 @@ pub fn any(most: usize, random: &mut Random) -> (&'static str, Table) {
             }
             _ => continue,
         };
-        if table.rows.len() <= most.max(5) && table.ids <= 1024 {
+        if table.rows.len() <= most.max(5) && table.ids as usize <= MOST_IDS {
             let table = relabelled(&table, random);
             let few_outer = random.chance(40);
             return (

@@ -14,6 +14,7 @@
 //! `#` begins a comment. Where two lines set the same thing, the last decides.
 
 use crate::Job;
+use common::{HEADER_WORDS, WORD_BYTES};
 use std::fmt::Write;
 
 /// The bytes of the job that a text describes, or what is wrong with the text.
@@ -48,7 +49,9 @@ pub fn to_bytes(text: &str) -> Result<Vec<u8>, String> {
             ("add", &[row]) => job.proposals.push([row, Job::ADD]),
             ("remove", &[row]) => job.proposals.push([row, Job::REMOVE]),
             ("propose", &[row, kind]) => job.proposals.push([row, kind]),
-            ("word", &[word @ 0..8, value]) => words.push((word as usize, value)),
+            ("word", &[word, value]) if (word as usize) < HEADER_WORDS => {
+                words.push((WORD_BYTES * word as usize, value));
+            }
             ("length", &[bytes]) => length = Some(bytes as usize),
             _ => return Err(format!("line {line_number}: not an item: {}", line.trim())),
         }
@@ -59,8 +62,8 @@ pub fn to_bytes(text: &str) -> Result<Vec<u8>, String> {
         *mark.ok_or_else(|| format!("line {line_number}: there is no row {row}"))? = value;
     }
     let mut bytes = job.bytes();
-    for (word, value) in words {
-        bytes[4 * word..4 * word + 4].copy_from_slice(&value.to_le_bytes());
+    for (at, value) in words {
+        bytes[at..at + WORD_BYTES].copy_from_slice(&value.to_le_bytes());
     }
     if let Some(length) = length {
         bytes.resize(length, 0);

@@ -1,6 +1,7 @@
 //! The stored jobs: their bytes are what their text makes, and their expected
 //! listings are what `plain` gives.
 
+use common::{MOST_PROPOSALS, MOST_ROWS};
 use jobs::text;
 use std::fs;
 use std::path::{Path, PathBuf};
@@ -93,7 +94,10 @@ fn listings_begin_as_document_01_says() {
 #[test]
 fn largest_is_as_large_as_a_job_may_be() {
     let job = jobs::Job::from_bytes(&read("largest", "job")).expect("a layout");
-    assert_eq!((job.rows.len(), job.proposals.len()), (2048, 1024));
+    assert_eq!(
+        (job.rows.len(), job.proposals.len()),
+        (MOST_ROWS, MOST_PROPOSALS)
+    );
     let listing = read_text("largest", "out");
     for answer in 0..=5 {
         let ending = format!(" {answer}");

@@ -1,7 +1,8 @@
 //! Proposals and the five cases.
 
 use crate::header::word;
-use crate::table::{round_edge, Table, EDGES};
+use crate::table::{round_edge, Table};
+use common::{EDGES, PROPOSAL_BYTES, WORD_BYTES};
 
 /// Answers each proposal on the marks then standing and changes the marks of
 /// those taken. Returns how many were taken.
@@ -12,8 +13,8 @@ pub(crate) fn run_proposals(
     answers: &mut [u8],
 ) -> u32 {
     let mut taken = 0;
-    for (proposal, answer) in proposals.chunks_exact(8).zip(answers) {
-        let (row, kind) = (word(proposal), word(&proposal[4..]));
+    for (proposal, answer) in proposals.chunks_exact(PROPOSAL_BYTES).zip(answers) {
+        let (row, kind) = (word(proposal), word(&proposal[WORD_BYTES..]));
         *answer = judge(table, marks, row, kind);
         if *answer == 0 {
             marks[row as usize] ^= 1;

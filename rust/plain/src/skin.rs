@@ -1,7 +1,8 @@
 //! Marks, the ring test and the list of the skin: codes 10 to 12.
 
-use crate::table::{Table, TRIANGLES};
+use crate::table::Table;
 use crate::Refusal;
+use common::TRIANGLES;
 
 const INSIDE: u8 = 1;
 

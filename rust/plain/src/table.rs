@@ -1,9 +1,15 @@
 //! Rows, neighbours, and the three rules of a closed table: codes 5 to 9.
 
-use crate::header::Header;
 use crate::Refusal;
+use common::{Counts, EDGES, MOST_IDS, MOST_ROWS, TRIANGLES};
 
-/// The ids of a tetrahedron. Ids are below 1,024 once code 5 is out of the way.
+/// Bits of an id and of a row number, in keys to sort by.
+const ID_BITS: u32 = MOST_IDS.ilog2();
+const ROW_BITS: u32 = MOST_ROWS.ilog2();
+/// Bits of a row number with a corner.
+const PLACE_BITS: u32 = ROW_BITS + 2;
+
+/// The ids of a tetrahedron, each below `MOST_IDS` once code 5 is out of the way.
 pub(crate) type Row = [u16; 4];
 
 /// A closed table.
@@ -16,27 +22,14 @@ pub(crate) struct Table<'a> {
 /// The rows across a row's triangles, by left-out corner.
 pub(crate) type Across = [u32; 4];
 
-/// The corners of the triangle that leaves out each corner.
-pub(crate) const TRIANGLES: [[usize; 3]; 4] = [[1, 2, 3], [0, 2, 3], [0, 1, 3], [0, 1, 2]];
-
-/// The corners of each edge, and then those of the edge opposite.
-pub(crate) const EDGES: [[usize; 4]; 6] = [
-    [0, 1, 2, 3],
-    [0, 2, 1, 3],
-    [0, 3, 1, 2],
-    [1, 2, 0, 3],
-    [1, 3, 0, 2],
-    [2, 3, 0, 1],
-];
-
 /// Reads the rows: codes 5 and 6.
-pub(crate) fn read_rows(header: &Header, job: &[u8]) -> Result<Vec<Row>, Refusal> {
-    let mut rows = Vec::with_capacity(header.rows);
-    let (words, _) = job[header.rows_at()..header.marks_at()].as_chunks::<4>();
+pub(crate) fn read_rows(counts: &Counts, job: &[u8]) -> Result<Vec<Row>, Refusal> {
+    let mut rows = Vec::with_capacity(counts.rows);
+    let (words, _) = job[counts.rows_at()..counts.marks_at()].as_chunks::<4>();
     for row in words.as_chunks::<4>().0 {
         let ids = row.map(u32::from_le_bytes);
         let rising = ids[0] < ids[1] && ids[1] < ids[2] && ids[2] < ids[3];
-        if !rising || ids[3] >= header.ids as u32 {
+        if !rising || ids[3] >= counts.ids as u32 {
             return Err(Refusal::new(5, rows.len()));
         }
         rows.push(ids.map(|id| id as u16));
@@ -54,16 +47,17 @@ pub(crate) fn find_neighbours(rows: &[Row], neighbours: &mut [Across]) -> Result
     for (r, row) in rows.iter().enumerate() {
         for (corner, triangle) in TRIANGLES.iter().enumerate() {
             let [a, b, c] = triangle.map(|t| u64::from(row[t]));
-            keys.push(a << 33 | b << 23 | c << 13 | (4 * r + corner) as u64);
+            let ids = a << (2 * ID_BITS) | b << ID_BITS | c;
+            keys.push(ids << PLACE_BITS | (4 * r + corner) as u64);
         }
     }
-    for shift in [13, 23, 33] {
-        keys = sorted_by_id(keys, shift);
+    for id in 0..3 {
+        keys = sorted_by_id(keys, PLACE_BITS + id * ID_BITS);
     }
-    let row = |key: u64| (key >> 2 & 0x7ff) as usize;
+    let row = |key: u64| (key >> 2) as usize % MOST_ROWS;
     let corner = |key: u64| (key & 3) as usize;
     let mut broken = Lowest::default();
-    for group in keys.chunk_by(|x, y| x >> 13 == y >> 13) {
+    for group in keys.chunk_by(|x, y| x >> PLACE_BITS == y >> PLACE_BITS) {
         if let [x, y] = *group {
             neighbours[row(x)][corner(x)] = row(y) as u32;
             neighbours[row(y)][corner(y)] = row(x) as u32;
@@ -74,10 +68,10 @@ pub(crate) fn find_neighbours(rows: &[Row], neighbours: &mut [Across]) -> Result
     broken.refusal(7)
 }
 
-/// Sorts by the ten bits from `shift` on; equals keep their order.
+/// Sorts by the id from bit `shift` on; equals keep their order.
 fn sorted_by_id(keys: Vec<u64>, shift: u32) -> Vec<u64> {
-    let id = |key: u64| (key >> shift) as usize % 1024;
-    let mut places = [0; 1024];
+    let id = |key: u64| (key >> shift) as usize % MOST_IDS;
+    let mut places = [0; MOST_IDS];
     for &key in &keys {
         places[id(key)] += 1;
     }
@@ -151,7 +145,7 @@ pub(crate) fn check_edges(rows: &[Row], neighbours: &[Across]) -> Result<(), Ref
                 continue;
             }
             let [a, b] = [row[edge[0]], row[edge[1]]];
-            walks.push(u32::from(a) << 21 | u32::from(b) << 11 | r as u32);
+            walks.push((u32::from(a) << ID_BITS | u32::from(b)) << ROW_BITS | r as u32);
             for at in round_edge(rows, neighbours, r, edge) {
                 seen[at] |= 1 << edge_of(&rows[at], a, b);
             }
@@ -161,8 +155,8 @@ pub(crate) fn check_edges(rows: &[Row], neighbours: &[Across]) -> Result<(), Ref
     // The first of several walks round an edge began at its lowest row.
     let mut broken = Lowest::default();
     for pair in walks.windows(2) {
-        if pair[0] >> 11 == pair[1] >> 11 {
-            broken.add((pair[0] & 0x7ff) as usize);
+        if pair[0] >> ROW_BITS == pair[1] >> ROW_BITS {
+            broken.add(pair[0] as usize % MOST_ROWS);
         }
     }
     broken.refusal(8)

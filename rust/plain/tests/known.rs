@@ -1,47 +1,8 @@
 //! The jobs of document 01 with their whole results. Every buffer is lent one
 //! longer than needed and filled with 9s.
 
-use plain::Outcome;
-
-#[derive(Clone)]
-struct Job {
-    ids: u32,
-    rows: Vec<[u32; 4]>,
-    marks: Vec<u8>,
-    proposals: Vec<[u32; 2]>,
-}
-
-impl Job {
-    fn bytes(&self) -> Vec<u8> {
-        let [n, p] = [self.rows.len() as u32, self.proposals.len() as u32];
-        let header = [
-            self.ids,
-            n,
-            p,
-            32,
-            32 + 16 * n,
-            32 + 17 * n,
-            32 + 17 * n + 8 * p,
-            0,
-        ];
-        let mut bytes: Vec<u8> = words(&header);
-        bytes.extend(self.rows.iter().flat_map(|row| words(row)));
-        bytes.extend(&self.marks);
-        bytes.extend(self.proposals.iter().flat_map(|pair| words(pair)));
-        bytes
-    }
-
-    fn inside(mut self, rows: &[usize]) -> Job {
-        for &row in rows {
-            self.marks[row] = 1;
-        }
-        self
-    }
-}
-
-fn words(words: &[u32]) -> Vec<u8> {
-    words.iter().flat_map(|word| word.to_le_bytes()).collect()
-}
+use common::{Buffers, Outcome, Rooms};
+use jobs::Job;
 
 fn job_a() -> Job {
     Job {
@@ -89,80 +50,59 @@ fn twice_a(ids: u32, second: [u32; 5]) -> Job {
     }
 }
 
-/// The four buffers as lent.
-#[derive(Clone, Debug, PartialEq)]
-struct Lent {
-    answers: Vec<u8>,
-    final_marks: Vec<u8>,
-    triangles: Vec<u32>,
-    work: Vec<u32>,
+/// The job with these rows inside.
+fn inside(mut job: Job, rows: &[usize]) -> Job {
+    for &row in rows {
+        job.marks[row] = 1;
+    }
+    job
 }
 
-impl Lent {
-    fn nines(n: usize, p: usize) -> Lent {
-        Lent {
-            answers: vec![9; p + 1],
-            final_marks: vec![9; n + 1],
-            triangles: vec![9; 6 * n + 1],
-            work: vec![9; 4 * n + 1],
-        }
-    }
-
-    fn of(job: &Job) -> Lent {
-        Lent::nines(job.rows.len(), job.proposals.len())
-    }
-
-    fn run(&mut self, bytes: &[u8]) -> Outcome {
-        plain::run(
-            bytes,
-            &mut self.answers,
-            &mut self.final_marks,
-            &mut self.triangles,
-            &mut self.work,
-        )
-    }
-}
-
-fn refused(code: u32, place: u32) -> Outcome {
-    Outcome {
-        code,
-        place,
-        taken: 0,
-        triangles: 0,
-    }
+fn nines(job: &Job) -> Buffers {
+    let Rooms {
+        answers,
+        final_marks,
+        triangles,
+        work,
+    } = job.rooms();
+    let one_longer = Rooms {
+        answers: answers + 1,
+        final_marks: final_marks + 1,
+        triangles: triangles + 1,
+        work: work + 1,
+    };
+    Buffers::filled(one_longer, 9)
 }
 
 /// Runs a job that is refused by its header or for want of room.
-fn refused_early(bytes: &[u8], lent: &Lent, code: u32) {
-    let mut left = lent.clone();
-    assert_eq!(left.run(bytes), refused(code, 0));
-    assert_eq!(left, *lent);
+fn refused_early(bytes: &[u8], buffers: &Buffers, code: u32) {
+    let mut left = buffers.clone();
+    let outcome = plain::run(bytes, left.lend());
+    assert_eq!(outcome, Outcome::refused(code, 0));
+    assert_eq!(left, *buffers);
 }
 
 /// Runs a job that is refused by its table or its marks.
 fn refused_late(job: &Job, code: u32, place: u32) {
-    let mut left = Lent::of(job);
+    let mut left = nines(job);
     let mut expected = left.clone();
-    expected.work[..4 * job.rows.len()].fill(0);
-    assert_eq!(left.run(&job.bytes()), refused(code, place));
+    expected.work[..job.rooms().work].fill(0);
+    let outcome = plain::run(&job.bytes(), left.lend());
+    assert_eq!(outcome, Outcome::refused(code, place));
     assert_eq!(left, expected);
 }
 
 /// Runs a job that is not refused.
 fn done(job: &Job, answers: &[u8], marks: &[u8], skin: &[[u32; 3]], neighbours: &[u32]) {
-    let mut left = Lent::of(job);
+    let mut left = nines(job);
     let mut expected = left.clone();
     expected.answers[..answers.len()].copy_from_slice(answers);
     expected.final_marks[..marks.len()].copy_from_slice(marks);
     expected.triangles[..3 * skin.len()].copy_from_slice(skin.as_flattened());
     expected.work[..neighbours.len()].copy_from_slice(neighbours);
-    let outcome = Outcome {
-        code: 0,
-        place: 0,
-        taken: answers.iter().filter(|&&answer| answer == 0).count() as u32,
-        triangles: skin.len() as u32,
-    };
-    assert_eq!(left.run(&job.bytes()), outcome);
+    let taken = answers.iter().filter(|&&answer| answer == 0).count();
+    let outcome = plain::run(&job.bytes(), left.lend());
+    assert_eq!(outcome, Outcome::done(taken as u32, skin.len() as u32));
     assert_eq!(left, expected);
 }
 
@@ -210,7 +150,7 @@ fn case_b() {
 
 #[test]
 fn case_c() {
-    refused_late(&job_b().inside(&[8, 11]), 12, 1);
+    refused_late(&inside(job_b(), &[8, 11]), 12, 1);
 }
 
 #[test]
@@ -222,7 +162,7 @@ fn case_d() {
 
 #[test]
 fn case_e() {
-    refused_late(&job_a().inside(&[0]), 11, 0);
+    refused_late(&inside(job_a(), &[0]), 11, 0);
 }
 
 #[test]
@@ -261,22 +201,22 @@ fn rows_outside_their_limits() {
     let mut job = job_a();
     job.rows.pop();
     job.marks.pop();
-    refused_early(&job.bytes(), &Lent::of(&job), 2);
+    refused_early(&job.bytes(), &nines(&job), 2);
     job.rows = vec![[0, 1, 2, 3]; 2049];
     job.marks = vec![0; 2049];
-    refused_early(&job.bytes(), &Lent::of(&job), 2);
+    refused_early(&job.bytes(), &nines(&job), 2);
 }
 
 #[test]
 fn thirty_one_bytes() {
-    refused_early(&job_a().bytes()[..31], &Lent::of(&job_a()), 1);
-    refused_early(&[], &Lent::of(&job_a()), 1);
+    refused_early(&job_a().bytes()[..31], &nines(&job_a()), 1);
+    refused_early(&[], &nines(&job_a()), 1);
 }
 
 #[test]
 fn cut_by_a_byte() {
     let bytes = job_a().bytes();
-    refused_early(&bytes[..bytes.len() - 1], &Lent::of(&job_a()), 3);
+    refused_early(&bytes[..bytes.len() - 1], &nines(&job_a()), 3);
 }
 
 #[test]
@@ -289,25 +229,25 @@ fn six_ids() {
 #[test]
 fn room_short_by_one() {
     let bytes = job_a().bytes();
-    let exact = Lent {
+    let exact = Buffers {
         answers: vec![9; 7],
         final_marks: vec![9; 5],
         triangles: vec![9; 30],
         work: vec![9; 20],
     };
-    assert_eq!(exact.clone().run(&bytes).code, 0);
-    let mut lent = exact.clone();
-    lent.answers.pop();
-    refused_early(&bytes, &lent, 4);
-    lent = exact.clone();
-    lent.final_marks.pop();
-    refused_early(&bytes, &lent, 4);
-    lent = exact.clone();
-    lent.triangles.pop();
-    refused_early(&bytes, &lent, 4);
-    lent = exact.clone();
-    lent.work.pop();
-    refused_early(&bytes, &lent, 4);
+    assert_eq!(plain::run(&bytes, exact.clone().lend()).code, 0);
+    let mut short = exact.clone();
+    short.answers.pop();
+    refused_early(&bytes, &short, 4);
+    short = exact.clone();
+    short.final_marks.pop();
+    refused_early(&bytes, &short, 4);
+    short = exact.clone();
+    short.triangles.pop();
+    refused_early(&bytes, &short, 4);
+    short = exact.clone();
+    short.work.pop();
+    refused_early(&bytes, &short, 4);
 }
 
 #[test]
@@ -318,7 +258,7 @@ fn earlier_codes_decide() {
     job.rows[4] = [1, 2, 3, 3];
     refused_late(&job, 5, 4);
     // A bad mark stands after an outer row marked inside.
-    let mut job = job_a().inside(&[0]);
+    let mut job = inside(job_a(), &[0]);
     job.marks[4] = 255;
     refused_late(&job, 10, 4);
 }
@@ -326,17 +266,10 @@ fn earlier_codes_decide() {
 #[test]
 fn timed_run_gives_the_same() {
     let job = job_b();
-    let (mut timed, mut untimed) = (Lent::of(&job), Lent::of(&job));
+    let (mut timed, mut untimed) = (nines(&job), nines(&job));
     let mut stages = plain::Stages::default();
-    let outcome = plain::run_timed(
-        &job.bytes(),
-        &mut timed.answers,
-        &mut timed.final_marks,
-        &mut timed.triangles,
-        &mut timed.work,
-        &mut stages,
-    );
-    assert_eq!(outcome, untimed.run(&job.bytes()));
+    let outcome = plain::run_timed(&job.bytes(), timed.lend(), &mut stages);
+    assert_eq!(outcome, plain::run(&job.bytes(), untimed.lend()));
     assert_eq!(timed, untimed);
     assert!(!stages.neighbours.is_zero());
 }

@@ -1,49 +1,47 @@
 //! An engine for track jobs that follows document 01 word for word. Nothing in
-//! it is there to be quick, and it shares no code with the other engines.
+//! it is there to be quick, and beyond the numbers and types of `common` it
+//! shares no code with the other engines.
+
+use common::{
+    Lent, Outcome, Rooms, EDGES, HEADER_BYTES, IDS, MARK_BYTES, PROPOSALS, PROPOSAL_BYTES, ROWS,
+    ROW_BYTES, TRIANGLES,
+};
 
 pub type Row = [u32; 4];
 
-/// The corners of the triangle that leaves out each corner.
-const TRIANGLES: [[usize; 3]; 4] = [[1, 2, 3], [0, 2, 3], [0, 1, 3], [0, 1, 2]];
-/// The corners of each edge.
-const EDGES: [[usize; 2]; 6] = [[0, 1], [0, 2], [0, 3], [1, 2], [1, 3], [2, 3]];
-
-/// Runs a job. Returns code, place, taken and triangles.
-pub fn run(
-    job: &[u8],
-    answers: &mut [u8],
-    final_marks: &mut [u8],
-    triangles: &mut [u32],
-    work: &mut [u32],
-) -> [u32; 4] {
-    let lent = [
-        answers.len(),
-        final_marks.len(),
-        triangles.len(),
-        work.len(),
-    ];
-    if let Some(code) = refused_by_header(job, lent) {
-        return [code, 0, 0, 0];
+/// Runs a job.
+pub fn run(job: &[u8], lent: Lent) -> Outcome {
+    if let Some(code) = refused_by_header(job) {
+        return Outcome::refused(code, 0);
     }
-    let word = |at: usize| number(job, at) as usize;
-    let [v, n, p] = [word(0), word(4), word(8)];
+    let [v, n, p] = [0, 4, 8].map(|at| number(job, at) as usize);
+    let Some(lent) = lent.front(Rooms::exact(n, p)) else {
+        return Outcome::refused(4, 0);
+    };
+    let Lent {
+        answers,
+        final_marks,
+        triangles,
+        work,
+    } = lent;
+    let [marks_at, proposals_at, _] = places(n, p);
     let rows: Vec<Row> = (0..n)
-        .map(|r| [0, 4, 8, 12].map(|corner| number(job, 32 + 16 * r + corner)))
+        .map(|r| [0, 4, 8, 12].map(|corner| number(job, HEADER_BYTES + ROW_BYTES * r + corner)))
         .collect();
-    let marks = &job[32 + 16 * n..32 + 17 * n];
+    let marks = &job[marks_at..proposals_at];
     let proposals = (0..p).map(|i| {
-        let at = 32 + 17 * n + 8 * i;
+        let at = proposals_at + PROPOSAL_BYTES * i;
         [number(job, at), number(job, at + 4)]
     });
 
     if let Some((code, place)) = refused_by_table(v, &rows, marks) {
-        work[..4 * n].fill(0);
-        return [code, place as u32, 0, 0];
+        work.fill(0);
+        return Outcome::refused(code, place as u32);
     }
-    final_marks[..n].copy_from_slice(marks);
+    final_marks.copy_from_slice(marks);
     let mut taken = 0;
     for (i, [row, kind]) in proposals.enumerate() {
-        answers[i] = answer(&rows, &final_marks[..n], row, kind);
+        answers[i] = answer(&rows, final_marks, row, kind);
         if answers[i] == 0 {
             final_marks[row as usize] = u8::from(kind == 1);
             taken += 1;
@@ -56,11 +54,11 @@ pub fn run(
             work[4 * r + left_out] = across.expect("a neighbour") as u32;
         }
     }
-    let skin = skin(&rows, &final_marks[..n]);
+    let skin = skin(&rows, final_marks);
     for (i, ids) in skin.iter().enumerate() {
         triangles[3 * i..3 * i + 3].copy_from_slice(ids);
     }
-    [0, 0, taken, skin.len() as u32]
+    Outcome::done(taken, skin.len() as u32)
 }
 
 /// The word that begins at a byte.
@@ -68,27 +66,31 @@ fn number(job: &[u8], at: usize) -> u32 {
     (0..4).map(|i| u32::from(job[at + i]) << (8 * i)).sum()
 }
 
-/// Codes 1 to 4. `lent` is the room for answers, final marks, triangles and
-/// work.
-fn refused_by_header(job: &[u8], lent: [usize; 4]) -> Option<u32> {
-    if job.len() < 32 {
+/// Where marks and proposals begin, and the whole length.
+fn places(n: usize, p: usize) -> [usize; 3] {
+    let marks = HEADER_BYTES + ROW_BYTES * n;
+    let proposals = marks + MARK_BYTES * n;
+    [marks, proposals, proposals + PROPOSAL_BYTES * p]
+}
+
+/// Codes 1 to 3.
+fn refused_by_header(job: &[u8]) -> Option<u32> {
+    if job.len() < HEADER_BYTES {
         return Some(1);
     }
-    let [v, n, p] = [number(job, 0), number(job, 4), number(job, 8)];
-    if !(5..=1024).contains(&v) || !(5..=2048).contains(&n) || p > 1024 {
+    let word = |i: usize| number(job, 4 * i) as usize;
+    let [v, n, p] = [word(0), word(1), word(2)];
+    if !IDS.contains(&v) || !ROWS.contains(&n) || !PROPOSALS.contains(&p) {
         return Some(2);
     }
-    let length = 32 + 17 * n + 8 * p;
-    let expected = [32, 32 + 16 * n, 32 + 17 * n, length, 0];
-    let differs = (0..5).any(|i| number(job, 12 + 4 * i) != expected[i]);
-    if differs || job.len() != length as usize {
-        return Some(3);
-    }
-    let [n, p] = [n as usize, p as usize];
-    if lent[0] < p || lent[1] < n || lent[2] < 6 * n || lent[3] < 4 * n {
-        return Some(4);
-    }
-    None
+    let [marks, proposals, length] = places(n, p);
+    let laid_out = word(3) == HEADER_BYTES
+        && word(4) == marks
+        && word(5) == proposals
+        && word(6) == length
+        && word(7) == 0
+        && job.len() == length;
+    (!laid_out).then_some(3)
 }
 
 /// Codes 5 to 12 with their places.
@@ -108,7 +110,7 @@ fn refused_by_table(v: usize, rows: &[Row], marks: &[u8]) -> Option<(u32, usize)
                 let held: Vec<usize> = rows_holding(rows, ids).collect();
                 all_joined(held.len(), |i, j| beside[held[i]][held[j]])
             };
-            let edges = |r: usize| EDGES.map(|edge| edge.map(|corner| rows[r][corner]));
+            let edges = |r: usize| EDGES.map(|[a, b, ..]| [rows[r][a], rows[r][b]]);
             let joined_at: Vec<bool> = (0..v as u32).map(|id| joined(&[id])).collect();
             first(8, &|r| edges(r).iter().any(|edge| !joined(edge)))
                 .or_else(|| first(9, &|r| rows[r].iter().any(|&id| !joined_at[id as usize])))
@@ -248,7 +250,7 @@ fn five_cases_pass(rows: &[Row], marks: &[u8], row: usize, kind: u32) -> bool {
                     .iter()
                     .any(|ids| edge.iter().all(|id| ids.contains(id)))
             };
-            let edges = EDGES.map(|edge| edge.map(|corner| ids[corner]));
+            let edges = EDGES.map(|[a, b, ..]| [ids[a], ids[b]]);
             let mut tested = edges.iter().filter(|edge| in_neither(edge));
             let edge = tested.next().expect("an edge in neither triangle");
             assert!(tested.next().is_none(), "one such edge");

@@ -2,21 +2,15 @@
 //! word of every buffer. AGREE_JOBS sets the number of random jobs and
 //! AGREE_SEED the number of the first.
 
-use jobs::{cases, growth, tables, Job, Lent, Random, Rooms, Table};
+use common::{Buffers, Outcome, Rooms};
+use jobs::{cases, growth, tables, Job, Random, Table};
 
 /// Runs both on the same buffers, requires the same results, and returns them.
-fn agree(kind: &str, job: &[u8], lent: Lent) -> ([u32; 4], Lent) {
-    let mut by_plain = lent.clone();
-    let mut by_slow = lent;
-    let plain = by_plain.run_plain(job);
-    let plain = [plain.code, plain.place, plain.taken, plain.triangles];
-    let slow = slow::run(
-        job,
-        &mut by_slow.answers,
-        &mut by_slow.final_marks,
-        &mut by_slow.triangles,
-        &mut by_slow.work,
-    );
+fn agree(kind: &str, job: &[u8], buffers: Buffers) -> (Outcome, Buffers) {
+    let mut by_plain = buffers.clone();
+    let mut by_slow = buffers;
+    let plain = plain::run(job, by_plain.lend());
+    let slow = slow::run(job, by_slow.lend());
     assert_eq!(plain, slow, "{kind}");
     assert!(by_plain == by_slow, "{kind}: buffers");
     (slow, by_slow)
@@ -38,16 +32,16 @@ fn random_jobs() {
     for number in (first..).take(count as usize) {
         let most = 5 + (number % 36) as usize;
         let case = cases::case(number, most);
-        let lent = Lent::random(case.rooms, &mut Random::new(!number));
+        let buffers = Random::new(!number).buffers(case.rooms);
         let kind = format!("case {number} of {most}: {}", case.kind);
-        let (outcome, lent) = agree(&kind, &case.job, lent);
-        codes[outcome[0] as usize] += 1;
-        if outcome[0] == 0 {
+        let (outcome, buffers) = agree(&kind, &case.job, buffers);
+        codes[outcome.code as usize] += 1;
+        if outcome.code == 0 {
             let p = Job::from_bytes(&case.job)
                 .expect("a layout")
                 .proposals
                 .len();
-            for &answer in &lent.answers[..p] {
+            for &answer in &buffers.answers[..p] {
                 answers[answer as usize] += 1;
             }
         }
@@ -90,8 +84,7 @@ fn every_start() {
             for (bit, &row) in finite.iter().enumerate() {
                 job.marks[row] = (marking >> bit & 1) as u8;
             }
-            let lent = Lent::zeros(Rooms::exact(job.rows.len(), 0));
-            agree("every start", &job.bytes(), lent);
+            agree("every start", &job.bytes(), Buffers::zeros(job.rooms()));
         }
     }
 }
@@ -102,20 +95,19 @@ fn every_byte_and_length() {
     for name in ["a", "b"] {
         let folder = concat!(env!("CARGO_MANIFEST_DIR"), "/../../jobs");
         let bytes = std::fs::read(format!("{folder}/{name}.job")).expect("a stored job");
-        let random = &mut Random::new(6);
-        let lent = Lent::random(Rooms::exact(13, 9), random);
+        let buffers = Random::new(6).buffers(Rooms::exact(13, 9));
         for at in 0..bytes.len() {
             for change in [1, 2, 3, 4, 8, 128, 255] {
                 let mut changed = bytes.clone();
                 changed[at] ^= change;
-                agree("a byte changed", &changed, lent.clone());
+                agree("a byte changed", &changed, buffers.clone());
             }
-            agree("cut", &bytes[..at], lent.clone());
+            agree("cut", &bytes[..at], buffers.clone());
         }
         let mut longer = bytes.clone();
         for _ in 0..20 {
             longer.push(0);
-            agree("extended", &longer, lent.clone());
+            agree("extended", &longer, buffers.clone());
         }
     }
 }
@@ -134,11 +126,10 @@ fn five_cases_keep_the_skin_clean() {
         }
         let adds = random.pick(&[20, 50, 80]);
         growth::propose(&mut job, 40, adds, random);
-        let lent = Lent::zeros(Rooms::exact(job.rows.len(), job.proposals.len()));
-        let (outcome, lent) = agree("five cases", &job.bytes(), lent);
-        assert_eq!(outcome[0], 0);
+        let (outcome, buffers) = agree("five cases", &job.bytes(), Buffers::zeros(job.rooms()));
+        assert_eq!(outcome.code, 0);
         let mut marks = job.marks.clone();
-        for (&[row, kind], &answer) in job.proposals.iter().zip(&lent.answers) {
+        for (&[row, kind], &answer) in job.proposals.iter().zip(&buffers.answers) {
             if answer != 0 && answer != 5 {
                 continue;
             }

@@ -1,6 +1,7 @@
 //! The engine in a program of its own, for processors other than x86-64. It
 //! runs under the emulator that TRACK_EMULATOR names, else `qemu-x86_64`.
 
+use common::Lent;
 use std::cell::RefCell;
 use std::env;
 use std::io::{self, Read, Write};
@@ -10,17 +11,11 @@ thread_local! {
     static HARNESS: RefCell<Option<Harness>> = const { RefCell::new(None) };
 }
 
-pub(crate) fn run(
-    job: &[u8],
-    answers: &mut [u8],
-    final_marks: &mut [u8],
-    triangles: &mut [u32],
-    work: &mut [u32],
-) -> [u32; 4] {
+pub(crate) fn run(job: &[u8], lent: Lent) -> [u32; 4] {
     HARNESS.with_borrow_mut(|harness| {
         harness
             .get_or_insert_with(Harness::start)
-            .run(job, answers, final_marks, triangles, work)
+            .run(job, lent)
             .expect("the emulated engine ended early")
     })
 }
@@ -41,14 +36,13 @@ impl Harness {
         }))
     }
 
-    fn run(
-        &mut self,
-        job: &[u8],
-        answers: &mut [u8],
-        final_marks: &mut [u8],
-        triangles: &mut [u32],
-        work: &mut [u32],
-    ) -> io::Result<[u32; 4]> {
+    fn run(&mut self, job: &[u8], lent: Lent) -> io::Result<[u32; 4]> {
+        let Lent {
+            answers,
+            final_marks,
+            triangles,
+            work,
+        } = lent;
         let mut request = Vec::new();
         for length in [
             job.len(),

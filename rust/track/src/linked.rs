@@ -1,5 +1,7 @@
 //! The engine's own function, linked into this program.
 
+use common::Lent;
+
 // Each slice of the function is a pointer and a length here; `outcome` is four
 // words.
 extern "C" {
@@ -18,13 +20,13 @@ extern "C" {
     );
 }
 
-pub(crate) fn run(
-    job: &[u8],
-    answers: &mut [u8],
-    final_marks: &mut [u8],
-    triangles: &mut [u32],
-    work: &mut [u32],
-) -> [u32; 4] {
+pub(crate) fn run(job: &[u8], lent: Lent) -> [u32; 4] {
+    let Lent {
+        answers,
+        final_marks,
+        triangles,
+        work,
+    } = lent;
     let mut outcome = [0; 4];
     // SAFETY: each pointer and length are those of a slice borrowed for the
     // whole call, the mutable ones don't overlap, and `outcome` has four words.

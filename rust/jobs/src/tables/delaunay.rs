@@ -3,6 +3,7 @@
 
 use super::simplex;
 use crate::{Random, Table};
+use common::TRIANGLES;
 
 type Point = [i128; 3];
 
@@ -68,8 +69,7 @@ impl Builder {
         for (r, row) in self.rows.iter().enumerate() {
             if self.conflict(row, point)? {
                 gone.push(r);
-                let [a, b, c, d] = *row;
-                triangles.extend([[a, b, c], [a, b, d], [a, c, d], [b, c, d]]);
+                triangles.extend(TRIANGLES.map(|triangle| triangle.map(|corner| row[corner])));
             }
         }
         triangles.sort_unstable();

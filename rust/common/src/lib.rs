@@ -1,0 +1,15 @@
+//! What the engines and the tests share: the numbers and small tables of
+//! document 01, the buffers that a caller lends, and what a run returns.
+
+mod corners;
+mod counts;
+mod lent;
+mod outcome;
+
+pub use corners::{EDGES, TRIANGLES};
+pub use counts::{
+    Counts, FEWEST_IDS, FEWEST_ROWS, HEADER_BYTES, HEADER_WORDS, IDS, MARK_BYTES, MOST_IDS,
+    MOST_PROPOSALS, MOST_ROWS, PROPOSALS, PROPOSAL_BYTES, ROWS, ROW_BYTES, WORD_BYTES,
+};
+pub use lent::{Buffers, Lent, Rooms};
+pub use outcome::Outcome;
