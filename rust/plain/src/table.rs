@@ -43,16 +43,16 @@ pub(crate) fn read_rows(counts: &Counts, job: &[u8]) -> Result<Vec<Row>, Refusal
 /// Fills the neighbour list, or refuses with code 7.
 pub(crate) fn find_neighbours(rows: &[Row], neighbours: &mut [Across]) -> Result<(), Refusal> {
     // A triangle's three ids above its row and its left-out corner.
+    let [high, middle, low] = [2, 1, 0].map(|id| PLACE_BITS + id * ID_BITS);
     let mut keys = Vec::with_capacity(4 * rows.len());
     for (r, row) in rows.iter().enumerate() {
         for (corner, triangle) in TRIANGLES.iter().enumerate() {
             let [a, b, c] = triangle.map(|t| u64::from(row[t]));
-            let ids = a << (2 * ID_BITS) | b << ID_BITS | c;
-            keys.push(ids << PLACE_BITS | (4 * r + corner) as u64);
+            keys.push(a << high | b << middle | c << low | (4 * r + corner) as u64);
         }
     }
-    for id in 0..3 {
-        keys = sorted_by_id(keys, PLACE_BITS + id * ID_BITS);
+    for shift in [low, middle, high] {
+        keys = sorted_by_id(keys, shift);
     }
     let row = |key: u64| (key >> 2) as usize % MOST_ROWS;
     let corner = |key: u64| (key & 3) as usize;
