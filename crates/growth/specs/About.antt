@@ -16,7 +16,7 @@ use Rattle.rules.specs.Laws.Joined.{Picked, stay, chain-ends, chain-passes}
 use Rattle.rules.specs.Reading.Rows.{one-corner}
 use Rattle.rules.specs.Reading.Neighbours.{Neighbours, neighbours-read, neighbours-back}
 use Rattle.rules.specs.Reading.Closed.{Closed, across-is, across-other, edge-rule}
-use Rattle.table.specs.Holders.{both, leaves, move-good, step-is-move, both-reads, leaves-reads}
+use Rattle.rules.specs.Reading.Moves.{both, leaves, move-good, step-is-move, both-reads, leaves-reads}
 use Rattle.growth.specs.Free.{touches, bothFree, touched}
 
 -- x is a row that holds a and b

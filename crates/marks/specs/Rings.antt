@@ -20,7 +20,7 @@ use Rattle.rules.specs.Laws.Lists.{pick-same}
 use Rattle.rules.specs.Laws.Joined.{Chain, stay, step, chain-ends, chain-join, Picked}
 use Rattle.rules.specs.Reading.Skin.{far-back}
 use Rattle.queue.specs.Flood.{stamped, Flooding, Flooded, flood-begins, flood-turn, flood-room, flood-ends, joined-by-count}
-use Rattle.table.specs.Chains.{highest, highest-more}
+use Rattle.rules.specs.Laws.Highest.{highest, highest-more}
 use Rattle.marks.specs.Ends.{Ends, Kept}
 
 -- a is an end of one of the edges

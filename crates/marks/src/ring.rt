@@ -6,7 +6,7 @@ ghost use mathlib.Core.Path.{_≡_};
 ghost use Prim.Native.Nat.{ℕ, _≤_, _<_};
 ghost use lib.ListN.{length, getD};
 ghost use Rattle.rules.specs.Below.{all, count};
-ghost use Rattle.table.specs.Chains.{highest};
+ghost use Rattle.rules.specs.Laws.Highest.{highest};
 ghost use Rattle.marks.specs.Ends.{ends};
 ghost use Rattle.marks.specs.Rings.{used, noneOrTwo, otherEnd, EvenFrom, Reached, SomeEdges, Decided};
 

@@ -2,6 +2,7 @@
 pub mod Truth
 pub mod Below
 pub mod Count
+pub mod Highest
 pub mod Lists
 pub mod Places
 pub mod Joined

@@ -2,6 +2,8 @@
 pub mod Rows
 pub mod Neighbours
 pub mod Closed
+pub mod Moves
+pub mod Apart
 pub mod Skin
 pub mod Ring
 pub mod Answers

@@ -1,6 +1,5 @@
 -- The rows that hold an edge or a vertex: whether they are joined is found by a flood from one of them.
 use mathlib.Core.Path.{_≡_, refl, sym, ap, _∙_, subst}
-use mathlib.Core.Logic.{_⊎_, inl, inr, ⊎-elim, _↔_, _≢_}
 use mathlib.Core.Bool.{Bool, true, false, not, _&&_, cond, and-assoc, and-true, and-self}
 use mathlib.Core.List.{List, [], _∷_}
 use mathlib.Core.Option.{some, none}
@@ -10,30 +9,27 @@ use native.Mathlib.Omega.{arith}
 use lib.Dec.{eqb, lit<}
 use lib.ListN.{length, getD, set, replicate, length-replicate, getD-replicate}
 use lib.Seq.{getD-set-other}
-use borrow.Author.Tests.{eqb-true, not-true, not-false}
+use borrow.Author.Tests.{not-true, not-false}
 use Rattle.rules.specs.Below.{lowest, any, all, gather, tabulate, count, pick}
 use Rattle.rules.specs.Joined.{connected}
 use Rattle.rules.specs.Shape.{edgeTable, vertices}
 use Rattle.rules.specs.Table.{Table, holds, neighbours, across, holdsFace, faceJoined, facesJoined, edgesJoined, verticesJoined}
 use Rattle.rules.specs.Laws.Below.{any-some, all-same}
-use Rattle.rules.specs.Laws.Truth.{true-or-false, not-both, same-or-not, and-first, and-both, not-reads, and-reads, eqb-reads}
-use Rattle.rules.specs.Laws.Count.{TheOther, the-other, count-same, count-not}
+use Rattle.rules.specs.Laws.Truth.{and-first}
+use Rattle.rules.specs.Laws.Count.{count-same, count-not}
 use Rattle.rules.specs.Laws.Lists.{pick-same}
 use Rattle.rules.specs.Laws.Places.{row-of, within-row}
-use Rattle.rules.specs.Laws.Joined.{Chain, stay, step, chain-ends, chain-join, Picked}
-use Rattle.rules.specs.Reading.Rows.{Rising, Holds, holds-reads}
-use Rattle.rules.specs.Reading.Neighbours.{Side, side-self, Neighbours, neighbours-read, neighbours-back}
-use Rattle.rules.specs.Reading.Closed.{TrianglesShared, triangles-read, across-other}
+use Rattle.rules.specs.Laws.Joined.{stay, Picked}
+use Rattle.rules.specs.Reading.Rows.{Rising}
+use Rattle.rules.specs.Reading.Neighbours.{neighbours-read, neighbours-back}
+use Rattle.rules.specs.Reading.Closed.{TrianglesShared, triangles-read}
+use Rattle.rules.specs.Reading.Moves.{both, leaves, Joining, across-below, move-good, step-is-move}
 use Rattle.table.specs.declared.faces.Face.{Face}
 use Rattle.table.specs.Faces.{Kind, faceCorners, cornerOf, faceOf, holdsIds, same-ids, own-face, kind-small, repeats}
 use Rattle.table.specs.Places.{faceAt, face-at, like, like-count, broken-row, broken-none}
 use Rattle.table.specs.Rows.{tableIn, RisingRows, each-rising}
 use Rattle.table.specs.Triangles.{Neighboured}
 use Rattle.queue.specs.Flood.{stamped, Flooding, Flooded, flood-begins, flood-turn, flood-room, flood-ends, joined-by-count}
-
--- row s holds a and b: an edge, or where a is b a vertex
-unfoldable pub both : Table → ℕ → ℕ → ℕ → Bool
-both t a b s = holds t s a && holds t s b
 
 unfoldable pub bothJoined : Table → ℕ → ℕ → Bool
 bothJoined t a b = connected (neighbours t) (pick (t .rows) (both t a b))
@@ -104,101 +100,22 @@ both-count t four up {base} {m} kind l p lp =
 
 -- ---- the flood from a row
 
--- from row x one leaves through a corner whose id is neither a nor b
-unfoldable pub leaves : Table → ℕ → ℕ → ℕ → ℕ → Bool
-leaves t a b x c = not (eqb (t .id x c) a) && not (eqb (t .id x c) b)
-
 pub four-ways : 0 < 4
 four-ways = lit< tt
 
--- from the start by neighbours that hold a and b
-abbrev pub Reach : Table → ℕ → ℕ → ℕ → ℕ → Type 0
-Reach t a b start = Chain (Picked (t .rows) (both t a b)) (λ x y. neighbours t x y ≡ true) start
-
-pub leaves-reads : (t : Table) (a b x c : ℕ) → (leaves t a b x c ≡ true) ↔ ((t .id x c ≢ a) × (t .id x c ≢ b))
-unfolding leaves
-leaves-reads t a b x c = and-reads (not-reads (eqb-reads (t .id x c) a)) (not-reads (eqb-reads (t .id x c) b))
-
-leaves-not : (t : Table) (a b x c : ℕ) → leaves t a b x c ≡ false → (t .id x c ≡ a) ⊎ (t .id x c ≡ b)
-unfolding leaves
-leaves-not t a b x c e =
-    ⊎-elim (λ i. inl (eqb-true (t .id x c) a i)) (λ n. ⊎-elim (λ j. inr (eqb-true (t .id x c) b j)) (λ o. absurd (not-both (and-both (ap not n) (ap not o)) e)) (true-or-false (eqb (t .id x c) b)))
-    (true-or-false (eqb (t .id x c) a))
-
-pub both-reads : (t : Table) (a b s : ℕ) → (both t a b s ≡ true) ↔ (Holds t s a × Holds t s b)
-unfolding both
-both-reads t a b s = and-reads (holds-reads t s a) (holds-reads t s b)
-
 module _ (t : Table) (four : t .corners ≡ 4) (up : (r : ℕ) → r < t .rows → Rising t r) (two : (r : ℕ) → r < t .rows → TrianglesShared t r) where
-  the-across : (x c : ℕ) → x < t .rows → c < 4 → TheOther (t .rows) (Side t x c) x
-  the-across x c l m = the-other (two x l c (rw four m)) x l (side-self t x c)
-
-  pub across-below : (x c : ℕ) → x < t .rows → c < 4 → across t x c < t .rows
-  across-below x c l m = rw (across-other t x c (the-across x c l m)) (the-across x c l m .below)
-
-  -- a move keeps to rows that hold a and b
-  pub move-good : (a b start x c : ℕ) → x < t .rows → c < 4 → Reach t a b start x → leaves t a b x c ≡ true → Reach t a b start (across t x c)
-  move-good a b start x c l m reach w =
-      let o = the-across x c l m in
-      let (na, nb) = leaves-reads t a b x c .0 w in
-      let (ha, hb) = both-reads t a b x .0 (chain-ends reach .1) in
-      rw (across-other t x c o) (chain-join reach (step (chain-ends reach) (neighbours-read t x (o .other) .1 (λ (e : x ≡ o .other). o .differs (sym e), (c, rw four m, o .is)))
-      (stay (o .below, both-reads t a b (o .other) .1 (kept a na ha (o .is), kept b nb hb (o .is))) refl)))
-    where
-      kept : (v : ℕ) → t .id x c ≢ v → Holds t x v → {y : ℕ} → Side t x c y → Holds t y v
-      kept v ne (k, lk, e) {y} on = subst (Holds t y) e (on k lk (λ (f : k ≡ c). ne (ap (t .id x) (sym f) ∙ e)))
-
-  -- a row has a corner through which one leaves
-  way-out : (a b x : ℕ) → x < t .rows → (c : ℕ) × (c < 4) × (leaves t a b x c ≡ true)
-  way-out a b x l =
-      ⊎-elim (λ w. (0, lit< tt, w)) (λ off. ⊎-elim (λ w. (1, lit< tt, w)) (λ off′. ⊎-elim (λ w. (2, lit< tt, w)) (λ off″. absurd (three
-      (up x l 0 1 (lit< tt) (rw four (lit< tt))) (up x l 1 2 (lit< tt) (rw four (lit< tt))) (leaves-not t a b x 0 off) (leaves-not t a b x 1 off′) (leaves-not t a b x 2 off″)))
-      (true-or-false (leaves t a b x 2))) (true-or-false (leaves t a b x 1))) (true-or-false (leaves t a b x 0))
-    where
-      -- three different ids are not all a or b
-      three : {i j k : ℕ} → i < j → j < k → (i ≡ a) ⊎ (i ≡ b) → (j ≡ a) ⊎ (j ≡ b) → (k ≡ a) ⊎ (k ≡ b) → ⊥
-      three l m (inl p) (inl q) e = omega arith
-      three l m (inr p) (inr q) e = omega arith
-      three l m (inl p) (inr q) (inl e) = omega arith
-      three l m (inl p) (inr q) (inr e) = omega arith
-      three l m (inr p) (inl q) (inl e) = omega arith
-      three l m (inr p) (inl q) (inr e) = omega arith
-
-  -- neighbours that hold a and b are a move apart
-  pub step-is-move : (a b x y : ℕ) → Picked (t .rows) (both t a b) x → Picked (t .rows) (both t a b) y → neighbours t x y ≡ true
-      → (c : ℕ) × (c < 4) × (leaves t a b x c ≡ true) × (across t x c ≡ y)
-  step-is-move a b x y (lx, hx) (ly, hy) n = apart (neighbours-read t x y .0 n)
-    where
-      -- the row across a triangle that y holds is y
-      is-across : x ≢ y → (c : ℕ) → c < 4 → Side t x c y → across t x c ≡ y
-      is-across ne c lc on = let o = the-across x c lx lc in across-other t x c o ∙ sym (o .only y ly on (λ (e : y ≡ x). ne (sym e)))
-
-      -- where the corner between them has the id a or b, row y holds all ids of x, and any way out will do
-      apart : Neighbours t x y → (c : ℕ) × (c < 4) × (leaves t a b x c ≡ true) × (across t x c ≡ y)
-      apart (ne, (c, lc, on)) =
-          ⊎-elim (λ w. (c, rw four at lc, w, is-across ne c (rw four at lc) on))
-          (λ off. let (d, ld, w) = way-out a b x lx in (d, ld, w, is-across ne d ld (λ k lk _. whole off k lk))) (true-or-false (leaves t a b x c))
-        where
-          shared : leaves t a b x c ≡ false → Holds t y (t .id x c)
-          shared off =
-              let (ha, hb) = both-reads t a b y .0 hy in
-              ⊎-elim (λ e. subst (Holds t y) (sym e) ha) (λ e. subst (Holds t y) (sym e) hb) (leaves-not t a b x c off)
-
-          whole : leaves t a b x c ≡ false → (k : ℕ) → k < t .corners → Holds t y (t .id x k)
-          whole off k lk = ⊎-elim (λ (e : k ≡ c). subst (λ (j : ℕ). Holds t y (t .id x j)) (sym e) (shared off)) (λ other. on k lk other) (same-or-not k c)
-
   -- As many rows are reached as hold a and b, exactly if these are joined.
   pub rows-joined : (a b k start : ℕ) (stamp : List ℕ) (reached : ℕ) → Picked (t .rows) (both t a b) start
-      → Flooded four-ways (t .rows) k start (leaves t a b) (across t) (Reach t a b start) stamp reached → eqb reached (count (t .rows) (both t a b)) ≡ bothJoined t a b
+      → Flooded four-ways (t .rows) k start (leaves t a b) (across t) (Joining t a b start) stamp reached → eqb reached (count (t .rows) (both t a b)) ≡ bothJoined t a b
   unfolding bothJoined
   rows-joined a b k start =
       joined-by-count four-ways (t .rows) k start (leaves t a b) (across t) (both t a b) (neighbours t)
-      (λ x y (lx, _) (ly, _) n. neighbours-read t y x .1 (neighbours-back t x y (up x lx) (up y ly) (neighbours-read t x y .0 n))) (step-is-move a b)
+      (λ x y (lx, _) (ly, _) n. neighbours-read t y x .1 (neighbours-back t x y (up x lx) (up y ly) (neighbours-read t x y .0 n))) (step-is-move t four up two a b)
 
 -- ---- the flood over a row section
 
 abbrev pub FloodingRows : List ℕ → ℕ → ℕ → ℕ → ℕ → List ℕ → List ℕ → ℕ → ℕ → Type 0
-FloodingRows bytes a b start k = Flooding four-ways (length bytes / 16) k start (leaves (tableIn bytes) a b) (across (tableIn bytes)) (Reach (tableIn bytes) a b start)
+FloodingRows bytes a b start k = Flooding four-ways (length bytes / 16) k start (leaves (tableIn bytes) a b) (across (tableIn bytes)) (Joining (tableIn bytes) a b start)
 
 shared-triangles : {bytes work : List ℕ} → Neighboured bytes work → (r : ℕ) → r < length bytes / 16 → TrianglesShared (tableIn bytes) r
 shared-triangles {bytes} nb r l = triangles-read (tableIn bytes) r .0 (nb .shared r l)
@@ -206,7 +123,7 @@ shared-triangles {bytes} nb r l = triangles-read (tableIn bytes) r .0 (nb .share
 module _ {bytes work : List ℕ} (nb : Neighboured bytes work) (a b start k : ℕ) where
   pub rows-begin : (stamp queue : List ℕ) → start < length bytes / 16 → both (tableIn bytes) a b start ≡ true → length stamp ≡ 2048 → length queue ≡ 2048
       → ((y : ℕ) → y < length bytes / 16 → getD stamp y 0 < k) → FloodingRows bytes a b start k (set stamp start k) (set queue 0 start) 0 1
-  rows-begin stamp queue l held = flood-begins four-ways (length bytes / 16) k start (leaves (tableIn bytes) a b) (across (tableIn bytes)) (Reach (tableIn bytes) a b start) stamp queue l (nb .rows .few) (stay (l, held) refl)
+  rows-begin stamp queue l held = flood-begins four-ways (length bytes / 16) k start (leaves (tableIn bytes) a b) (across (tableIn bytes)) (Joining (tableIn bytes) a b start) stamp queue l (nb .rows .few) (stay (l, held) refl)
 
   module _ {stamp queue : List ℕ} {i tail : ℕ} (f : FloodingRows bytes a b start k stamp queue i tail) where
     pub few-reached : tail ≤ 2048
@@ -214,7 +131,7 @@ module _ {bytes work : List ℕ} (nb : Neighboured bytes work) (a b start k : �
 
     pub rows-end : start < length bytes / 16 → both (tableIn bytes) a b start ≡ true → 4 * tail ≤ i → (eqb tail (count (length bytes / 16) (both (tableIn bytes) a b)) ≡ bothJoined (tableIn bytes) a b)
         × (length stamp ≡ 2048) × (length queue ≡ 2048) × ((y : ℕ) → y < length bytes / 16 → getD stamp y 0 ≤ k)
-    rows-end ls held l = (rows-joined (tableIn bytes) refl (each-rising (nb .rows)) (shared-triangles nb) a b k start stamp tail (ls, held) (flood-ends four-ways (length bytes / 16) k start (leaves (tableIn bytes) a b) (across (tableIn bytes)) (Reach (tableIn bytes) a b start) f l), f .stamps, f .places, f .low)
+    rows-end ls held l = (rows-joined (tableIn bytes) refl (each-rising (nb .rows)) (shared-triangles nb) a b k start stamp tail (ls, held) (flood-ends four-ways (length bytes / 16) k start (leaves (tableIn bytes) a b) (across (tableIn bytes)) (Joining (tableIn bytes) a b start) f l), f .stamps, f .places, f .low)
 
 -- row x stands at place i of the queue, and the corners below `corner` are done
 pub record Spreading (bytes : List ℕ) (a b start k i x corner : ℕ) (stamp queue : List ℕ) (tail : ℕ) : Type 0 where
@@ -256,7 +173,7 @@ module _ {bytes work : List ℕ} (nb : Neighboured bytes work) (a b start k i x 
       unfolding stamped
       turn {stamp′} {queue′} {tail′} es eq et = record {
         flood = subst (λ (turn : ℕ). FloodingRows bytes a b start k stamp′ queue′ turn tail′) (omega arith)
-            (flood-turn four-ways (length bytes / 16) k start (leaves (tableIn bytes) a b) (across (tableIn bytes)) (Reach (tableIn bytes) a b start) (s .flood) (omega (arith, s .waits)) {x = x} {y = y}
+            (flood-turn four-ways (length bytes / 16) k start (leaves (tableIn bytes) a b) (across (tableIn bytes)) (Joining (tableIn bytes) a b start) (s .flood) (omega (arith, s .waits)) {x = x} {y = y}
             (rw (row-of four-ways i corner lc) (s .at)) (rw (within-row four-ways i corner lc) is-across) (nb .rows .few) across-near
             (rw (within-row four-ways i corner lc) (λ w. rw is-across (move-good (tableIn bytes) refl (each-rising (nb .rows)) (shared-triangles nb) a b start x corner reached-below lc (rw (s .at) (s .flood .inside i (s .waits) .1)) w)))
             {fresh = way && not (eqb (getD stamp y 0) k)} (rw (within-row four-ways i corner lc) (ap (λ (v : Bool). v && not (eqb (getD stamp y 0) k)) ew)) es eq et);
@@ -289,7 +206,7 @@ module _ {bytes work : List ℕ} (nb : Neighboured bytes work) (a b start k i x 
             omega (
               arith,
               nb .rows .few,
-              flood-room four-ways (length bytes / 16) k start (leaves (tableIn bytes) a b) (across (tableIn bytes)) (Reach (tableIn bytes) a b start) (s .flood) z next-below (not-true (stamped k stamp z) on),
+              flood-room four-ways (length bytes / 16) k start (leaves (tableIn bytes) a b) (across (tableIn bytes)) (Joining (tableIn bytes) a b start) (s .flood) z next-below (not-true (stamped k stamp z) on),
             )
 
         -- what is done to a fresh z is done to y, if one leaves and y is fresh

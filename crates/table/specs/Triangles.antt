@@ -26,7 +26,7 @@ use Rattle.table.specs.declared.Found.{Found}
 use Rattle.table.specs.declared.Found.the-variants.{At, Nowhere}
 use Rattle.table.specs.Faces.{triangles, faceCorners, cornerOf, faceOf, holdsIds}
 use Rattle.table.specs.Rows.{tableIn, RisingRows}
-use Rattle.table.specs.Chains.{highest, highest-is}
+use Rattle.rules.specs.Laws.Highest.{highest, highest-is}
 use Rattle.table.specs.Walk.{another}
 use Rattle.rules.specs.Laws.Places.{row-below, place-below}
 use Rattle.table.specs.Places.{faceAt, like, like-self, broken-row, broken-none, face-at, like-holds, holds-like, one-like, like-count}

@@ -5,25 +5,22 @@ use mathlib.Core.List.{List}
 use Prim.Native.Nat.{ℕ, _+_, _*_, _≤_, _<_}
 use native.Mathlib.Nat.{le-antisymm}
 use native.Mathlib.Omega.{arith}
-use lib.Dec.{eqb, lit≤}
+use lib.Dec.{eqb}
 use lib.ListN.{getD}
 use Rattle.rules.specs.Below.{any, bit, count}
 use Rattle.rules.specs.Table.{Table}
 use Rattle.rules.specs.Laws.Truth.{and-first}
 use Rattle.rules.specs.Laws.Below.{any-here, none-any}
 use Rattle.rules.specs.Laws.Count.{count-not}
+use Rattle.rules.specs.Laws.Highest.{highest}
 use Rattle.table.specs.declared.faces.Face.{Face}
 use Rattle.table.specs.Faces.{sameIds, keyOf, key-below}
 use Rattle.table.specs.Places.{faceAt, Chained, like, like-key}
-use Rattle.table.specs.Chains.{highest, Next, walk-first, walk-count, walk-highest, walk-none, off-chain}
+use Rattle.table.specs.Chains.{Next, walk-first, walk-count, walk-highest, walk-none, off-chain}
 
 -- the places with the ids of place p but p itself
 unfoldable pub another : Table → ℕ → ℕ → ℕ → ℕ → Bool
 another t base m p q = like t base m p q && not (eqb q p)
-
-pub one-at-most : (b : Bool) → cond b 1 0 ≤ 1
-one-at-most true = lit≤ tt
-one-at-most false = lit≤ tt
 
 module _ (t : Table) (base m p : ℕ) where
   abbrev places : ℕ

@@ -12,7 +12,7 @@ ghost use lib.ListN.{length, getD, set};
 ghost use Rattle.rules.specs.Below.{any, count};
 ghost use Rattle.table.specs.Rows.{tableIn};
 ghost use Rattle.table.specs.Faces.{Kind};
-ghost use Rattle.table.specs.Chains.{highest};
+ghost use Rattle.rules.specs.Laws.Highest.{highest};
 ghost use Rattle.table.specs.Places.{Chained, like};
 ghost use Rattle.table.specs.Walk.{another};
 

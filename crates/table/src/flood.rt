@@ -12,7 +12,8 @@ ghost use lib.ListN.{length, getD};
 ghost use Rattle.rules.specs.Below.{count};
 ghost use Rattle.table.specs.Rows.{tableIn};
 ghost use Rattle.table.specs.Triangles.{Neighboured};
-ghost use Rattle.table.specs.Holders.{both, bothJoined, leaves, FloodingRows, Spreading};
+ghost use Rattle.rules.specs.Reading.Moves.{both, leaves};
+ghost use Rattle.table.specs.Holders.{bothJoined, FloodingRows, Spreading};
 
 // One leaves row x through a corner whose id is neither a nor b.
 fn leaves(rows: &[u8], a: usize, b: usize, x: usize, corner: usize) -> bool

@@ -3,8 +3,9 @@ use mathlib.Core.Path.{_≡_, refl, sym, ap, _∙_}
 use mathlib.Core.Logic.{_⊎_, inl, inr, ⊎-elim, _↔_}
 use mathlib.Core.Bool.{Bool, true, false, not, _&&_, _||_, true≢false}
 use Prim.Native.Nat.{ℕ, _≤_, _<_}
+use native.Mathlib.Omega.{arith}
 use lib.Dec.{eqb, ltb, leb}
-use borrow.Author.Tests.{eqb-true, eq-eqb, eqb-false, ltb-true, lt-ltb, leb-true, le-leb, not-true}
+use borrow.Author.Tests.{eqb-true, eq-eqb, eqb-false, ltb-true, ltb-false, lt-ltb, leb-true, le-leb, not-true}
 
 pub true-or-false : (b : Bool) → (b ≡ true) ⊎ (b ≡ false)
 true-or-false true = inl refl
@@ -70,6 +71,10 @@ same-or-not m n = go (true-or-false (eqb m n))
     go : (eqb m n ≡ true) ⊎ (eqb m n ≡ false) → (m ≡ n) ⊎ (m ≡ n → ⊥)
     go (inl t) = inl (eqb-true m n t)
     go (inr f) = inr (eqb-false m n f)
+
+pub lower-same-higher : (m n : ℕ) → (m < n) ⊎ (m ≡ n) ⊎ (n < m)
+lower-same-higher m n =
+    ⊎-elim (λ h. inl (ltb-true m n h)) (λ h. inr (⊎-elim inl (λ ne. inr (omega (arith, ltb-false m n h, ne))) (same-or-not m n))) (true-or-false (ltb m n))
 
 pub eqb-back : (a b : ℕ) → eqb a b ≡ eqb b a
 eqb-back a b = same-test (eqb a b) (eqb b a) (λ e. eq-eqb b a (sym (eqb-true a b e))) (λ e. eq-eqb a b (sym (eqb-true b a e)))

@@ -2,7 +2,7 @@ use mathlib.Core.Path.{refl, _∙_}
 use Prim.Native.Nat.{_-_}
 use borrow.Author.Needs.{needs}
 use Rattle.table.specs.Rows.{tableIn}
-use Rattle.table.specs.Holders.{leaves}
+use Rattle.rules.specs.Reading.Moves.{leaves}
 use Rattle.skin.specs.Ground.{neighbour-listed}
 use Rattle.growth.specs.About.{Onward, onward-none, onward-more, onward-whole}
 use Rattle.growth.proofs.about.onward.Statement.{statement}

@@ -4,7 +4,8 @@ use native.Mathlib.Nat.{le-antisymm}
 use borrow.Author.Needs.{needs}
 use Rattle.skin.specs.Ground.{between}
 use Rattle.growth.specs.Around.{Counted, corner-asked, counted-none, counted-small, counted-more}
-use Rattle.table.specs.Walk.{one-at-most}
+use Rattle.rules.specs.Below.{bit}
+use Rattle.rules.specs.Laws.Count.{bit-small}
 use Rattle.growth.proofs.cases.left_out.Statement.{statement}
 use Rattle.growth.proofs.cases.left_out.Tie as tie
 
@@ -24,7 +25,8 @@ pick-requires : tie.Need-pick-requires Inv-loop μ-loop
 pick-requires c κs = tt
 
 add-count : tie.Need-add-count Inv-loop μ-loop
-add-count c = omega (arith, c .pick .ensures, one-at-most (c .before .is-between .result), counted-small (c .before .before .before .loop .inv .1))
+unfolding bit
+add-count c = omega (arith, c .pick .ensures, bit-small (c .before .is-between .result), counted-small (c .before .before .before .loop .inv .1))
 
 pick-requires-2 : tie.Need-pick-requires-2 Inv-loop μ-loop
 pick-requires-2 c κs = tt

@@ -1,5 +1,5 @@
 use Rattle.table.specs.Triangles.{Listed, list-begins, list-turn, list-refuses, list-cleared, list-ends, frontAfter}
-use Rattle.table.specs.Chains.{highest-small}
+use Rattle.rules.specs.Laws.Highest.{highest-small}
 use Rattle.table.specs.Walk.{another}
 use Rattle.table.specs.Faces.{triangles}
 use Rattle.table.specs.Rows.{tableIn, each-rising}

@@ -1,10 +1,12 @@
 use Rattle.table.specs.Places.{places-fit}
 use Rattle.table.specs.Faces.{key-below}
-use Rattle.table.specs.Walk.{Walked, walk-begins, walk-turn, walk-ends, walked-small, goes-on, one-at-most}
+use Rattle.table.specs.Walk.{Walked, walk-begins, walk-turn, walk-ends, walked-small, goes-on}
 use borrow.Author.Needs.{needs}
 use native.Mathlib.Omega.{arith}
 use lib.ListN.{length}
 use Prim.Native.Nat.{_*_, _-_, _/_}
+use Rattle.rules.specs.Below.{bit}
+use Rattle.rules.specs.Laws.Count.{bit-small}
 use Rattle.table.specs.Rows.{tableIn}
 use Rattle.table.proofs.chains.like_places.Statement.{statement}
 use Rattle.table.proofs.chains.like_places.Tie as tie
@@ -40,7 +42,8 @@ pick-requires : tie.Need-pick-requires Inv-loop μ-loop
 pick-requires c κs = tt
 
 add-count : tie.Need-add-count Inv-loop μ-loop
-add-count c = omega (arith, c .pick .ensures, one-at-most (c .before .same-ids .result), walked-small _ _ _ _ _ _ _ (c .before .before .before .before .loop .inv), places-fit (c .before .before .before .before .before .before .before .before .before .pre .0) (c .before .before .before .before .before .before .before .before .before .pre .1))
+unfolding bit
+add-count c = omega (arith, c .pick .ensures, bit-small (c .before .same-ids .result), walked-small _ _ _ _ _ _ _ (c .before .before .before .before .loop .inv), places-fit (c .before .before .before .before .before .before .before .before .before .pre .0) (c .before .before .before .before .before .before .before .before .before .pre .1))
 
 pick-requires-2 : tie.Need-pick-requires-2 Inv-loop μ-loop
 pick-requires-2 c κs = tt

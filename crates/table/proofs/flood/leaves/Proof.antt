@@ -1,4 +1,4 @@
-use Rattle.table.specs.Holders.{leaves}
+use Rattle.rules.specs.Reading.Moves.{leaves}
 use borrow.Author.Needs.{needs}
 use Rattle.table.proofs.flood.leaves.Statement.{statement}
 use Rattle.table.proofs.flood.leaves.Tie as tie
