@@ -2,7 +2,7 @@
 --     Free      faces that are free of the other side, asked of ids
 --     Around    a row and the four across its triangles; how many are on the skin
 --     Edges     the edge that two skin triangles share, by the fixed tables
---     About     the rows at an edge, by walking about it
+--     About     whether an edge is free of the other side, by a walk about it
 --     Cases     the five cases as the code asks them
 --     Answers   one proposal by its tests, and proposals one after the other
 pub mod Free
