@@ -1,72 +1,73 @@
 -- Demand 2. In an accepted job each proposal is answered by the listed tests and Lhuillier's five cases, and the skin list is exactly
 -- the triangles with one tetrahedron inside and one outside.
-use mathlib.Core.Path.{_≡_, refl, sym, ap, _∙_}
+use mathlib.Core.Path.{_≡_, sym, ap, _∙_}
 use mathlib.Core.Logic.{_↔_}
-use mathlib.Core.Bool.{true}
+use mathlib.Core.Bool.{Bool, true}
 use mathlib.Core.List.{List, flatten}
 use Prim.Native.Nat.{ℕ, _+_, _<_}
 use lib.ListN.{length, getD}
-use Rattle.rules.specs.Table.{tableOf, neighbourList}
-use Rattle.rules.specs.Skin.{onSkin, skin}
-use Rattle.rules.specs.Proposals.{Proposal, insideIn, answer, answersTo, finalMarks, taken}
-use Rattle.rules.specs.Job.{track, headerOf, rowsTable, tableOfJob, marksOfJob, proposalsOfJob, Lent, written, Result, accepted, run}
-use Rattle.rules.specs.Laws.Lists.{Among, Distinct, tabulate-length}
+use Rattle.rules.specs.Table.{neighbourList}
+use Rattle.rules.specs.Skin.{onSkin}
+use Rattle.rules.specs.Proposals.{Proposal, insideIn, answer, taken}
+use Rattle.rules.specs.Job.{track, headerOf, Job, jobOf, answersOf, standing, finalOf, skinWith, Lent, written, Result, accepted, run}
+use Rattle.rules.specs.Laws.Lists.{Among, Distinct}
 use Rattle.rules.specs.Laws.Written.{written-at}
-use Rattle.rules.specs.Laws.Proposals.{answer-at, answers-length}
+use Rattle.rules.specs.Laws.Proposals.{answer-at}
 use Rattle.rules.specs.Laws.First.{FirstOf, conditionAt}
+use Rattle.rules.specs.Laws.Job.{job-corners, job-proposals, job-answers}
+use Rattle.rules.specs.Reading.Closed.{Closed}
 use Rattle.rules.specs.Reading.Answers.{answerConditions, answer-exactly, taken-exactly}
 use Rattle.rules.specs.Reading.Skin.{BetweenSides, skin-between-sides}
 use Rattle.rules.specs.Reading.Room.{Listed, skin-listed, skin-once}
 use Rattle.rules.specs.Reading.Codes.{run-accepted, run-code, accepted-closed}
 use Rattle.track.specs.declared.Outcome.{Outcome}
 use Rattle.track.specs.Outcomes.{result}
-use Rattle.manifold.specs.Jobs.{marksAt}
 use Rattle.demands.specs.Given.{Allowed, code-is}
 
-module _ (job : List ℕ) (before : Lent) {o : Outcome} {after : Lent} (ran : Allowed job before o after) (zero-code : o .code ≡ 0) where
-  pub job-accepted : run track job before .code ≡ 0
-  job-accepted = sym (code-is job before ran) ∙ zero-code
+module _ (bytes : List ℕ) (before : Lent) {o : Outcome} {after : Lent} (ran : Allowed bytes before o after) (zero-code : o .code ≡ 0) where
+  abbrev job : Job
+  job = jobOf track bytes
 
-  is : result o after ≡ accepted (tableOfJob track job) (marksOfJob track job) (proposalsOfJob track job) before
-  is = ran ∙ run-accepted job before (sym (run-code job before) ∙ job-accepted)
+  -- which rows are inside at the end
+  abbrev inside : ℕ → Bool
+  inside = insideIn (finalOf job)
 
-  -- the marks at the end
-  abbrev pub final : List ℕ
-  final = finalMarks (tableOfJob track job) (marksOfJob track job) (proposalsOfJob track job)
+  pub job-accepted : run track bytes before .code ≡ 0
+  job-accepted = sym (code-is bytes before ran) ∙ zero-code
+
+  pub job-closed : Closed (job .table) (job .ids)
+  job-closed = accepted-closed track bytes before job-accepted
+
+  is : result o after ≡ accepted job before
+  is = ran ∙ run-accepted track bytes before (sym (run-code track bytes before) ∙ job-accepted)
 
   -- the answers stand at the front, and all after them is unchanged
-  pub answers-left : after .answers ≡ written (answersTo (tableOfJob track job) (marksOfJob track job) (proposalsOfJob track job)) (before .answers)
+  pub answers-left : after .answers ≡ written (answersOf job) (before .answers)
   unfolding accepted
   answers-left = ap (λ (r : Result). r .left .answers) is
 
-  proposals-long : length (proposalsOfJob track job) ≡ headerOf job .proposals
-  unfolding proposalsOfJob
-  proposals-long = tabulate-length (headerOf job .proposals) _
-
   -- answer k is that to proposal k on the marks then standing, those that the k proposals before it left
-  pub each-answer : (d : Proposal) (k : ℕ) → k < headerOf job .proposals
-      → getD (after .answers) k 0 ≡ answer (tableOfJob track job) (marksAt job before job-accepted k) (getD (proposalsOfJob track job) k d)
+  pub each-answer : (d : Proposal) (k : ℕ) → k < headerOf bytes .proposals → getD (after .answers) k 0 ≡ answer (job .table) (standing job k) (getD (job .proposals) k d)
   each-answer d k l =
       ap (λ (xs : List ℕ). getD xs k 0) answers-left
-      ∙ written-at (answersTo (tableOfJob track job) (marksOfJob track job) (proposalsOfJob track job)) (before .answers) k
-      (rw (answers-length (tableOfJob track job) (marksOfJob track job) (proposalsOfJob track job), proposals-long) l)
-      ∙ answer-at (tableOfJob track job) (marksOfJob track job) (proposalsOfJob track job) d k (rw proposals-long l)
+      ∙ written-at (answersOf job) (before .answers) k (rw (job-answers track bytes) l)
+      ∙ answer-at (job .table) (job .marks) (job .proposals) d k (rw (job-proposals track bytes) l)
 
   -- an answer is 1 + i exactly if row 1 + i of the table of answers holds and none before it, and 0 exactly if none holds
   pub answered-exactly : (marks : List ℕ) (p : Proposal) (i : ℕ) → i < 5
-      → (answer (tableOfJob track job) marks p ≡ 1 + i) ↔ ((place : ℕ) × FirstOf (answerConditions (tableOfJob track job) marks p) i place)
-  answered-exactly marks p i l = answer-exactly (tableOfJob track job) marks p i l
+      → (answer (job .table) marks p ≡ 1 + i) ↔ ((place : ℕ) × FirstOf (answerConditions (job .table) marks p) i place)
+  answered-exactly = answer-exactly (job .table)
 
   pub taken-only : (marks : List ℕ) (p : Proposal)
-      → (answer (tableOfJob track job) marks p ≡ 0) ↔ ((i place : ℕ) → conditionAt (answerConditions (tableOfJob track job) marks p) i place → ⊥)
-  taken-only marks p = taken-exactly (tableOfJob track job) marks p
+      → (answer (job .table) marks p ≡ 0) ↔ ((i place : ℕ) → conditionAt (answerConditions (job .table) marks p) i place → ⊥)
+  taken-only = taken-exactly (job .table)
 
   -- the counts: the answers that are 0, and the triangles of the skin
-  pub taken-counted : o .taken ≡ taken (answersTo (tableOfJob track job) (marksOfJob track job) (proposalsOfJob track job))
+  pub taken-counted : o .taken ≡ taken (answersOf job)
   unfolding accepted
   taken-counted = ap (λ (r : Result). r .taken) is
 
-  pub triangles-counted : o .triangles ≡ length (skin (tableOfJob track job) (insideIn final))
+  pub triangles-counted : o .triangles ≡ length (skinWith job (finalOf job))
   unfolding accepted
   triangles-counted = ap (λ (r : Result). r .triangles) is
 
@@ -75,30 +76,26 @@ module _ (job : List ℕ) (before : Lent) {o : Outcome} {after : Lent} (ran : Al
   place-zero = ap (λ (r : Result). r .place) is
 
   -- the final marks, the skin by inside row and then left-out corner, three ids each, and the neighbour list stand at the front
-  pub marks-left : after .finalMarks ≡ written final (before .finalMarks)
+  pub marks-left : after .finalMarks ≡ written (finalOf job) (before .finalMarks)
   unfolding accepted
   marks-left = ap (λ (r : Result). r .left .finalMarks) is
 
-  pub triangles-left : after .triangles ≡ written (flatten (skin (tableOfJob track job) (insideIn final))) (before .triangles)
+  pub triangles-left : after .triangles ≡ written (flatten (skinWith job (finalOf job))) (before .triangles)
   unfolding accepted
   triangles-left = ap (λ (r : Result). r .left .triangles) is
 
-  pub work-left : after .work ≡ written (neighbourList (tableOfJob track job)) (before .work)
+  pub work-left : after .work ≡ written (neighbourList (job .table)) (before .work)
   unfolding accepted
   work-left = ap (λ (r : Result). r .left .work) is
 
   -- the triangles listed are those of inside rows with one row inside and one outside
-  pub listed-exactly : (ids : List ℕ) → Among ids (skin (tableOfJob track job) (insideIn final)) ↔ Listed (tableOfJob track job) (insideIn final) ids
-  listed-exactly ids = skin-listed (tableOfJob track job) (insideIn final) ids
+  pub listed-exactly : (ids : List ℕ) → Among ids (skinWith job (finalOf job)) ↔ Listed (job .table) inside ids
+  listed-exactly = skin-listed (job .table) inside
 
-  pub between-sides : (r c : ℕ) → r < tableOfJob track job .rows → c < tableOfJob track job .corners
-      → (onSkin (tableOfJob track job) (insideIn final) r c ≡ true) ↔ BetweenSides (tableOfJob track job) (insideIn final) (accepted-closed job before job-accepted) r c
-  between-sides r c l m = skin-between-sides (tableOfJob track job) (insideIn final) (accepted-closed job before job-accepted) r c l m
-
-  four : tableOfJob track job .corners ≡ 4
-  unfolding tableOfJob rowsTable tableOf
-  four = refl
+  pub between-sides : (r c : ℕ) → r < job .table .rows → c < job .table .corners
+      → (onSkin (job .table) inside r c ≡ true) ↔ BetweenSides (job .table) inside job-closed r c
+  between-sides = skin-between-sides (job .table) inside job-closed
 
   -- each once
-  pub listed-once : Distinct (skin (tableOfJob track job) (insideIn final))
-  listed-once = skin-once (tableOfJob track job) (insideIn final) (accepted-closed job before job-accepted) four
+  pub listed-once : Distinct (skinWith job (finalOf job))
+  listed-once = skin-once (job .table) inside job-closed (job-corners track bytes)

@@ -32,7 +32,7 @@ is-a d = ap (first d) document-jobs
 
 -- no bytes at all: code 1
 empty-job : (before : Lent) → run track [] before .code ≡ 1
-empty-job before = code-exactly [] before 0 0 (lit< tt) .1 (record { holds = (lit< tt, refl); none-before = λ j l. absurd (not-suc-le-zero l) }) .0
+empty-job before = code-exactly track [] before refl 0 0 (lit< tt) .1 (record { holds = (lit< tt, refl); none-before = λ j l. absurd (not-suc-le-zero l) }) .0
 
 module _ (v : Version) where
   abbrev lentA : Lent

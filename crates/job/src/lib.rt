@@ -3,14 +3,15 @@ use words::word_at;
 ghost use mathlib.Core.Path.{_≡_};
 ghost use Prim.Native.Nat.{_+_, _*_, _≤_, _<_};
 ghost use lib.ListN.{length};
-ghost use Rattle.rules.specs.Job.{track, headerWord, within, withinLimits, laidOut, marksAt, proposalsAt, wholeLength, shortRooms};
+ghost use Rattle.rules.specs.Job.{track, headerWord, mostRows, mostProposals, within, withinLimits, laidOut, rowsAt, marksAt, proposalsAt, wholeLength, workRoom, listRoom, shortRooms};
 ghost use Rattle.job.specs.Reading.{meant, header, readingOf};
 
-// V, N and P.
+// V, N, P and word 7.
 pub struct Header {
     pub ids: usize,
     pub rows: usize,
     pub proposals: usize,
+    pub mode: usize,
 }
 
 pub enum Reading {
@@ -37,7 +38,7 @@ impl Header {
     pub const MOST_PROPOSALS: usize = 1024;
 
     fn within_limits(self) -> bool
-        ensures { λ r. ⌜ r ≡ withinLimits (meant self) ⌝ }
+        ensures { λ r. ⌜ r ≡ withinLimits track (meant self) ⌝ }
     {
         between(Self::LEAST_IDS, self.ids, Self::MOST_IDS)
             & between(Self::LEAST_ROWS, self.rows, Self::MOST_ROWS)
@@ -46,30 +47,46 @@ impl Header {
 
     // Where the rows stand.
     pub fn rows_at(self) -> usize
-        ensures { λ r. ⌜ r ≡ 32 ⌝ }
+        ensures { λ r. ⌜ r ≡ rowsAt ⌝ }
     {
         32
     }
 
     pub fn marks_at(self) -> usize
-        requires { ⌜ self .rows ≤ 2048 ⌝ }
+        requires { ⌜ self .rows ≤ mostRows ⌝ }
         ensures { λ r. ⌜ r ≡ marksAt track (meant self) ⌝ }
     {
-        32 + 16 * self.rows
+        self.rows_at() + 16 * self.rows
     }
 
     pub fn proposals_at(self) -> usize
-        requires { ⌜ self .rows ≤ 2048 ⌝ }
+        requires { ⌜ self .rows ≤ mostRows ⌝ }
         ensures { λ r. ⌜ r ≡ proposalsAt track (meant self) ⌝ }
     {
-        32 + 17 * self.rows
+        self.marks_at() + self.rows
     }
 
     pub fn whole_length(self) -> usize
-        requires { ⌜ (self .rows ≤ 2048) × (self .proposals ≤ 1024) ⌝ }
+        requires { ⌜ (self .rows ≤ mostRows) × (self .proposals ≤ mostProposals) ⌝ }
         ensures { λ r. ⌜ r ≡ wholeLength track (meant self) ⌝ }
     {
         self.proposals_at() + 8 * self.proposals
+    }
+
+    // Work words: a neighbour for each corner.
+    pub fn work_room(self) -> usize
+        requires { ⌜ self .rows ≤ mostRows ⌝ }
+        ensures { λ r. ⌜ r ≡ workRoom track (meant self) ⌝ }
+    {
+        4 * self.rows
+    }
+
+    // Triangle words: at most two triangles a row, three ids each.
+    pub fn list_room(self) -> usize
+        requires { ⌜ self .rows ≤ mostRows ⌝ }
+        ensures { λ r. ⌜ r ≡ listRoom track (meant self) ⌝ }
+    {
+        6 * self.rows
     }
 }
 
@@ -81,33 +98,34 @@ fn between(least: usize, n: usize, greatest: usize) -> bool
 
 // Word i of the header.
 fn header_word(job: &[u8], i: usize) -> usize
-    requires { ⌜ (i < 8) × (32 ≤ length (now job)) ⌝ }
+    requires { ⌜ (i < 8) × (rowsAt ≤ length (now job)) ⌝ }
     ensures { λ r. ⌜ r ≡ headerWord (now (job .entry)) i ⌝ }
 {
     word_at(job, 4 * i) as usize
 }
 
-// V, N and P as words 0, 1 and 2 have them.
+// V, N, P and the mode as words 0, 1, 2 and 7 have them.
 fn header_of(job: &[u8]) -> Header
-    requires { ⌜ 32 ≤ length (now job) ⌝ }
+    requires { ⌜ rowsAt ≤ length (now job) ⌝ }
     ensures { λ r. ⌜ r ≡ header (now (job .entry)) ⌝ }
 {
     Header {
         ids: header_word(job, 0),
         rows: header_word(job, 1),
         proposals: header_word(job, 2),
+        mode: header_word(job, 7),
     }
 }
 
 fn laid_out(h: Header, job: &[u8]) -> bool
-    requires { ⌜ (32 ≤ length (now job)) × (h .rows ≤ 2048) × (h .proposals ≤ 1024) ⌝ }
+    requires { ⌜ (rowsAt ≤ length (now job)) × (h .rows ≤ mostRows) × (h .proposals ≤ mostProposals) ⌝ }
     ensures { λ r. ⌜ r ≡ laidOut track (meant h) (now (job .entry)) ⌝ }
 {
     (header_word(job, 3) == h.rows_at())
         & (header_word(job, 4) == h.marks_at())
         & (header_word(job, 5) == h.proposals_at())
         & (header_word(job, 6) == h.whole_length())
-        & (header_word(job, 7) == 0)
+        & (h.mode == 0)
         & (header_word(job, 6) == job.len())
 }
 
@@ -136,11 +154,11 @@ pub fn room_short(
     triangles: usize,
     work: usize,
 ) -> bool
-    requires { ⌜ h .rows ≤ 2048 ⌝ }
-    ensures { λ r. ⌜ r ≡ shortRooms (meant h) answers «final_marks» triangles work ⌝ }
+    requires { ⌜ h .rows ≤ mostRows ⌝ }
+    ensures { λ r. ⌜ r ≡ shortRooms track (meant h) answers «final_marks» triangles work ⌝ }
 {
     (answers < h.proposals)
         | (final_marks < h.rows)
-        | (triangles < 6 * h.rows)
-        | (work < 4 * h.rows)
+        | (triangles < h.list_room())
+        | (work < h.work_room())
 }

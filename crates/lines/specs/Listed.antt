@@ -6,12 +6,10 @@ use Prim.Native.Nat.{ℕ, _+_, _*_, _≤_}
 use native.Mathlib.Omega.{arith}
 use lib.ListN.{length, replicate, length-replicate}
 use borrow.Author.Tests.{le-ltb, ne-eqb}
-use Rattle.rules.specs.Table.{tableOf}
-use Rattle.rules.specs.Skin.{skin}
-use Rattle.rules.specs.Proposals.{insideIn, answersTo, finalMarks, taken}
-use Rattle.rules.specs.Job.{track, headerOf, rowsTable, tableOfJob, marksOfJob, proposalsOfJob, Result, written, accepted, run}
-use Rattle.rules.specs.Laws.Lists.{gather-same, tabulate-length}
-use Rattle.rules.specs.Laws.Proposals.{answers-length}
+use Rattle.rules.specs.Proposals.{insideIn, taken}
+use Rattle.rules.specs.Job.{track, headerOf, mostRows, mostProposals, rowsAt, jobOf, answersOf, finalOf, skinWith, Result, written, accepted, run}
+use Rattle.rules.specs.Laws.Job.{job-corners, job-answers}
+use Rattle.rules.specs.Laws.Lists.{gather-same}
 use Rattle.rules.specs.Laws.Written.{written-at}
 use Rattle.rules.specs.Reading.Room.{skin-words}
 use Rattle.rules.specs.Reading.Codes.{limits-read, laid-out-reads, run-accepted, run-code, accepted-header}
@@ -53,22 +51,22 @@ module _ (job : List ℕ) {o : Outcome} {answers marks triangles work : List ℕ
     laid : readingOf job ≡ Laid (header job)
     unfolding readingOf
     laid =
-        let (limits, out) = accepted-header job zeros ran in
-        rw (le-ltb (length job) 32 (omega (arith, out .1, out .0 .0 .1)), limits-read (headerOf job) .1 limits, laid-out-reads (headerOf job) job .1 out)
+        let (limits, out) = accepted-header track job zeros ran in
+        rw (le-ltb (length job) rowsAt (omega (arith, out .1, out .0 .0 .1)), limits-read track (headerOf job) .1 limits, laid-out-reads track (headerOf job) job .1 out)
 
-    few-triangles : o .triangles ≤ 4096
-    few-triangles = omega (arith, ap (λ (r : Result). r .triangles) is-run, triangles-small job zeros)
+    few-triangles : o .triangles ≤ 2 * mostRows
+    few-triangles = omega (arith, ap (λ (r : Result). r .triangles) is-run, triangles-small track job zeros refl)
 
     -- p was read from the header
     module _ {p : ℕ} (ep : p ≡ proposalsIn (readingOf job)) where
       the-proposals : p ≡ headerOf job .proposals
       the-proposals = ep ∙ ap proposalsIn laid
 
-      few-proposals : p ≤ 1024
-      few-proposals = rw the-proposals (accepted-header job zeros ran .0 .1 .1)
+      few-proposals : p ≤ mostProposals
+      few-proposals = rw the-proposals (accepted-header track job zeros ran .0 .1 .1)
 
       pub done-fits : length answers ≡ length (replicate {A = ℕ} 1024 0) → length triangles ≡ length (replicate {A = ℕ} 12288 0)
-          → (p ≤ 1024) × (o .triangles ≤ 4096) × (p ≤ length answers) × (3 * o .triangles ≤ length triangles)
+          → (p ≤ mostProposals) × (o .triangles ≤ 2 * mostRows) × (p ≤ length answers) × (3 * o .triangles ≤ length triangles)
       done-fits ea et = (
         few-proposals,
         few-triangles,
@@ -92,27 +90,16 @@ triangles-front xs d n l =
     gather-same n (triangleLine (written xs d)) (triangleLine xs) (λ k m.
     rw (written-at xs d (3 * k) (omega arith), written-at xs d (3 * k + 1) (omega arith), written-at xs d (3 * k + 2) (omega arith)))
 
--- the answers to a job's proposals, and the skin after them
-unfoldable pub answersOf : List ℕ → List ℕ
-answersOf job = answersTo (tableOfJob track job) (marksOfJob track job) (proposalsOfJob track job)
-
-unfoldable pub skinOfJob : List ℕ → List (List ℕ)
-skinOfJob job = skin (tableOfJob track job) (insideIn (finalMarks (tableOfJob track job) (marksOfJob track job) (proposalsOfJob track job)))
-
-each-answered : (job : List ℕ) → length (answersOf job) ≡ headerOf job .proposals
-unfolding answersOf proposalsOfJob
-each-answered job = answers-length (tableOfJob track job) (marksOfJob track job) (proposalsOfJob track job) ∙ tabulate-length (headerOf job .proposals) _
-
-three-ids : (job : List ℕ) → length (flatten (skinOfJob job)) ≡ 3 * length (skinOfJob job)
-unfolding skinOfJob tableOfJob rowsTable tableOf
-three-ids job = skin-words (tableOfJob track job) (insideIn (finalMarks (tableOfJob track job) (marksOfJob track job) (proposalsOfJob track job))) refl
-
-pub accepted-listing : (job : List ℕ) → run track job zeros .code ≡ 0
-    → listingOf job ≡ doneText (headerOf job .proposals) (taken (answersOf job)) (length (skinOfJob job)) (answersOf job) (flatten (skinOfJob job))
-unfolding listingOf listing accepted doneText answersOf skinOfJob
-accepted-listing job z =
+pub accepted-listing : (bytes : List ℕ) → run track bytes zeros .code ≡ 0
+    → let job = jobOf track bytes in
+    let skinList = skinWith job (finalOf job) in
+    listingOf bytes ≡ doneText (headerOf bytes .proposals) (taken (answersOf job)) (length skinList) (answersOf job) (flatten skinList)
+unfolding listingOf listing accepted doneText
+accepted-listing bytes z =
+    let job = jobOf track bytes in
+    let skinList = skinWith job (finalOf job) in
     rw (
-      run-accepted job zeros (sym (run-code job zeros) ∙ z),
-      answers-front (answersOf job) (zeros .answers) (headerOf job .proposals) (omega (arith, each-answered job)),
-      triangles-front (flatten (skinOfJob job)) (zeros .triangles) (length (skinOfJob job)) (omega (arith, three-ids job)),
+      run-accepted track bytes zeros (sym (run-code track bytes zeros) ∙ z),
+      answers-front (answersOf job) (zeros .answers) (headerOf bytes .proposals) (omega (arith, job-answers track bytes)),
+      triangles-front (flatten skinList) (zeros .triangles) (length skinList) (omega (arith, skin-words (job .table) (insideIn (finalOf job)) (job-corners track bytes))),
     )

@@ -7,7 +7,7 @@ use mathlib.Core.List.{List, [], _∷_, _++_}
 use lib.Dec.{ltb, eqb}
 use lib.ListN.{getD, replicate}
 use Rattle.rules.specs.Below.{gather}
-use Rattle.rules.specs.Job.{track, headerOf, Lent, Result, run}
+use Rattle.rules.specs.Job.{track, Header, headerOf, mostIds, mostRows, mostProposals, Lent, workRoom, listRoom, Result, run}
 
 -- the codes of a text's characters
 abbrev pub ascii : String → List ℕ
@@ -82,13 +82,17 @@ listing proposals r =
     (doneText proposals (r .taken) (r .triangles) (r .left .answers) (r .left .triangles))
     (refusedText (r .code) (r .place))
 
+-- the counts of the largest job
+abbrev pub largest : Header
+largest = record { ids = mostIds; rows = mostRows; proposals = mostProposals; mode = track .mode }
+
 -- buffers that no job finds short, filled with zeros
 unfoldable pub zeros : Lent
 zeros = record {
-  answers = replicate 1024 0;
-  finalMarks = replicate 2048 0;
-  triangles = replicate 12288 0;
-  work = replicate 8192 0;
+  answers = replicate (largest .proposals) 0;
+  finalMarks = replicate (largest .rows) 0;
+  triangles = replicate (listRoom track largest) 0;
+  work = replicate (workRoom track largest) 0;
 }
 
 -- of a job, by its bytes

@@ -11,7 +11,7 @@ use lib.ListN.{length, take}
 use lib.Seq.{length-take-le}
 use borrow.Author.Tests.{le-ltb, ne-eqb}
 use Rattle.rules.specs.Words.{word}
-use Rattle.rules.specs.Job.{Header, track, headerOf, withinLimits, laidOut}
+use Rattle.rules.specs.Job.{Header, track, headerOf, withinLimits, rowsAt, laidOut}
 use Rattle.rules.specs.Laws.Truth.{true-or-false, is-false}
 use Rattle.rules.specs.Laws.Words.{word-part}
 use Rattle.rules.specs.Reading.Codes.{limits-read, laid-out-reads}
@@ -23,34 +23,34 @@ use Rattle.lines.specs.Listing.{refusedText, listing, zeros, listingOf}
 
 -- outside its limits, or not laid out
 module _ (job : List ℕ) (long : 65536 ≤ length job) where
-  not-laid-out : withinLimits (headerOf job) ≡ true → laidOut track (headerOf job) job ≡ false
+  not-laid-out : withinLimits track (headerOf job) ≡ true → laidOut track (headerOf job) job ≡ false
   not-laid-out w =
       is-false (laidOut track (headerOf job) job) (λ l.
-      let ((_, (_, n)), (_, p)) = limits-read (headerOf job) .0 w in
-      let out = laid-out-reads (headerOf job) job .0 l in
+      let ((_, (_, n)), (_, p)) = limits-read track (headerOf job) .0 w in
+      let out = laid-out-reads track (headerOf job) job .0 l in
       omega (arith, out .1, out .0 .0 .1))
 
   refused : {r : Reading} → r ≡ readingOf job → codeOf r ≢ 0 → leb (codeOf r) 4 ≡ true → listingOf job ≡ refusedText (codeOf r) 0
   unfolding listingOf listing
   refused {r} e ne small = rw (← header-refused job zeros e refl ne small, ne-eqb (codeOf r) 0 ne)
 
-  long-refused : listingOf job ≡ cond (withinLimits (headerOf job)) (refusedText 3 0) (refusedText 2 0)
+  long-refused : listingOf job ≡ cond (withinLimits track (headerOf job)) (refusedText 3 0) (refusedText 2 0)
   unfolding readingOf
   long-refused =
-      let whole = le-ltb (length job) 32 (omega arith) in
-      ⊎-elim (λ (w : withinLimits (headerOf job) ≡ true). refused {r = Layout} (rw (whole, w, not-laid-out w)) (λ z. omega arith) refl ∙ rw w)
-      (λ (o : withinLimits (headerOf job) ≡ false). refused {r = Limits} (rw (whole, o)) (λ z. omega arith) refl ∙ rw o)
-      (true-or-false (withinLimits (headerOf job)))
+      let whole = le-ltb (length job) rowsAt (omega arith) in
+      ⊎-elim (λ (w : withinLimits track (headerOf job) ≡ true). refused {r = Layout} (rw (whole, w, not-laid-out w)) (λ z. omega arith) refl ∙ rw w)
+      (λ (o : withinLimits track (headerOf job) ≡ false). refused {r = Limits} (rw (whole, o)) (λ z. omega arith) refl ∙ rw o)
+      (true-or-false (withinLimits track (headerOf job)))
 
 same-word : (n : ℕ) (input : List ℕ) (place : ℕ) → place + 4 ≤ n → word 4 (take n input) place ≡ word 4 input place
 same-word n input place l = word-part 4 input 0 n place l ∙ ap (word 4 input) (zero-add place)
 
-same-header : (n : ℕ) (input : List ℕ) → 32 ≤ n → headerOf (take n input) ≡ headerOf input
+same-header : (n : ℕ) (input : List ℕ) → rowsAt ≤ n → headerOf (take n input) ≡ headerOf input
 unfolding headerOf
-same-header n input l = rw (same-word n input 0 (omega arith), same-word n input 4 (omega arith), same-word n input 8 (omega arith))
+same-header n input l = rw (same-word n input 0 (omega arith), same-word n input 4 (omega arith), same-word n input 8 (omega arith), same-word n input 28 (omega arith))
 
 pub front-enough : (n : ℕ) (input : List ℕ) → 65536 ≤ n → n ≤ length input → listingOf (take n input) ≡ listingOf input
 front-enough n input large long =
     long-refused (take n input) (rw (length-take-le n input long) large)
-    ∙ ap (λ (h : Header). cond (withinLimits h) (refusedText 3 0) (refusedText 2 0)) (same-header n input (omega arith))
+    ∙ ap (λ (h : Header). cond (withinLimits track h) (refusedText 3 0) (refusedText 2 0)) (same-header n input (omega arith))
     ∙ sym (long-refused input (omega arith))

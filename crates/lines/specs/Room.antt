@@ -6,6 +6,7 @@ use native.Mathlib.Nat.{le-antisymm, mul-le-mul-left}
 use native.Mathlib.Omega.{arith}
 use lib.ListN.{length, getD, length-append}
 use Rattle.rules.specs.Below.{gather}
+use Rattle.rules.specs.Job.{mostProposals}
 use Rattle.rules.specs.Laws.Lists.{gather-more}
 use Rattle.lines.specs.Listing.{decimal, spaced, line, wordDone, wordRefused, wordP, wordT, answerLine, triangleLine}
 use Rattle.lines.specs.Put.{Put, put-kept, Turns, turns-begin, one-turn, turns-end}
@@ -34,7 +35,7 @@ module _ {a b : ℕ} (la : a < 18446744073709551616) (lb : b < 18446744073709551
   pub refused-few : length (line wordRefused (a ∷ b ∷ [])) ≤ 50
   refused-few = line-few 19 wordRefused (a ∷ b ∷ []) (omega arith, (omega arith, tt))
 
-pub answer-few : (answers : List ℕ) (k : ℕ) → k < 1024 → getD answers k 0 < 256 → length (answerLine answers k) ≤ 12
+pub answer-few : (answers : List ℕ) (k : ℕ) → k < mostProposals → getD answers k 0 < 256 → length (answerLine answers k) ≤ 12
 unfolding answerLine
 answer-few answers k l m = line-few 3 wordP (k ∷ getD answers k 0 ∷ []) (omega arith, (omega arith, tt))
 

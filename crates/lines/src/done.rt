@@ -3,12 +3,13 @@ use crate::text::put_line;
 ghost use mathlib.Core.Path.{_≡_};
 ghost use Prim.Native.Nat.{_+_, _*_, _≤_, _<_};
 ghost use lib.ListN.{length, getD};
+ghost use Rattle.rules.specs.Job.{mostRows, mostProposals};
 ghost use Rattle.lines.specs.Listing.{answerLine, answerLines, triangleLine, triangleLines, doneText};
 ghost use Rattle.lines.specs.Put.{Put};
 
 // The line of a proposal: its number and its answer.
 fn put_answer(answers: &[u8], k: usize, out: &mut [u8], at: usize) -> usize
-    requires { ⌜ (k < 1024) × (k < length (now answers)) × (at + 12 ≤ length (now out)) ⌝ }
+    requires { ⌜ (k < mostProposals) × (k < length (now answers)) × (at + 12 ≤ length (now out)) ⌝ }
     ensures { λ r. ⌜ Put (answerLine (now (answers .entry)) k) (now (out .entry)) at (now (out .exit)) r × (r ≤ at + 12) ⌝ }
 {
     let numbers = [k, answers[k] as usize];
@@ -16,7 +17,7 @@ fn put_answer(answers: &[u8], k: usize, out: &mut [u8], at: usize) -> usize
 }
 
 fn put_answers(answers: &[u8], count: usize, out: &mut [u8], at: usize) -> usize
-    requires { ⌜ (count ≤ 1024) × (count ≤ length (now answers)) × (at + 12 * count ≤ length (now out)) ⌝ }
+    requires { ⌜ (count ≤ mostProposals) × (count ≤ length (now answers)) × (at + 12 * count ≤ length (now out)) ⌝ }
     ensures { λ r. ⌜ Put (answerLines (now (answers .entry)) count) (now (out .entry)) at (now (out .exit)) r × (r ≤ at + 12 * count) ⌝ }
 {
     let mut next = at;
@@ -68,7 +69,7 @@ pub(crate) fn put_done(
     triangles: &[u32],
     out: &mut [u8],
 ) -> usize
-    requires { ⌜ (proposals ≤ 1024) × (count ≤ 4096) × (proposals ≤ length (now answers)) × (3 * count ≤ length (now triangles)) × (163840 ≤ length (now out)) ⌝ }
+    requires { ⌜ (proposals ≤ mostProposals) × (count ≤ 2 * mostRows) × (proposals ≤ length (now answers)) × (3 * count ≤ length (now triangles)) × (163840 ≤ length (now out)) ⌝ }
     ensures { λ r. ⌜ Put (doneText proposals taken count (now (answers .entry)) (now (triangles .entry))) (now (out .entry)) 0 (now (out .exit)) r × (r ≤ 163840) ⌝ }
 {
     let numbers = [proposals, taken, count];

@@ -1,46 +1,54 @@
 -- Demand 3 for accepted jobs: those that `rules`' run gives code 0, whatever is lent.
-use mathlib.Core.Path.{_≡_, refl}
+use mathlib.Core.Path.{_≡_, _∙_}
 use mathlib.Core.Logic.{_↔_}
 use mathlib.Core.Bool.{true, false}
 use mathlib.Core.List.{List}
 use Prim.Native.Nat.{ℕ}
 use lib.ListN.{take}
-use Rattle.rules.specs.Table.{Table, tableOf}
-use Rattle.rules.specs.Skin.{clean}
-use Rattle.rules.specs.Proposals.{Proposal, insideIn, answer, finalMarks}
-use Rattle.rules.specs.Job.{track, headerOf, rowsTable, tableOfJob, marksOfJob, proposalsOfJob, Lent, run}
+use Rattle.rules.specs.Proposals.{Proposal, answer, RefusedByCases}
+use Rattle.rules.specs.Job.{Form, Job, jobOf, standing, finalOf, cleanWith, Lent, run}
+use Rattle.rules.specs.Laws.Job.{job-corners}
+use Rattle.rules.specs.Reading.Closed.{Closed}
 use Rattle.rules.specs.Reading.Codes.{accepted-closed, accepted-marks, accepted-clean, accepted-length}
 use Rattle.manifold.specs.Steps.{PassesEarlier, flipped, Marks, AllTaken, undoing, five-cases, every-step, backwards, all-steps}
 
-module _ (job : List ℕ) (lent : Lent) (accepted : run track job lent .code ≡ 0) where
-  abbrev table : Table
-  table = tableOfJob track job
+-- After each proposal, and before the first, the far edges at each skin corner form one single ring.
+abbrev pub EveryStep : Job → Type 0
+EveryStep job = (k : ℕ) → cleanWith job (standing job k) ≡ true
 
-  four : table .corners ≡ 4
-  unfolding tableOfJob rowsTable tableOf
-  four = refl
+-- A proposal that passes the earlier tests on the marks then standing is taken exactly if that leaves the skin clean, and refused by the five cases exactly if not.
+abbrev pub CasesDecide : Job → Type 0
+CasesDecide job = (k : ℕ) (p : Proposal) → PassesEarlier (job .table) (standing job k) p
+    → ((answer (job .table) (standing job k) p ≡ 0) ↔ (cleanWith job (flipped (standing job k) p) ≡ true))
+    × (RefusedByCases (answer (job .table) (standing job k) p) ↔ (cleanWith job (flipped (standing job k) p) ≡ false))
 
-  start : Marks table (marksOfJob track job)
-  start = record { one-each = accepted-length job lent accepted; binary = accepted-marks job lent accepted }
+-- The taken proposals, run backwards with add and remove exchanged, are all taken and bring back the start.
+abbrev pub Backwards : Job → Type 0
+Backwards job = AllTaken (job .table) (finalOf job) (undoing (job .table) (job .marks) (job .proposals)) (job .marks)
 
-  -- the marks after the first k proposals
-  abbrev pub marksAt : ℕ → List ℕ
-  marksAt k = finalMarks (tableOfJob track job) (marksOfJob track job) (take k (proposalsOfJob track job))
+module _ (f : Form) (bytes : List ℕ) (lent : Lent) (corners : f .corners ≡ 4) (accepted : run f bytes lent .code ≡ 0) where
+  abbrev job : Job
+  job = jobOf f bytes
 
-  -- After each proposal, and before the first, the far edges at each skin corner form one single ring.
-  pub job-every-step : (k : ℕ) → clean (tableOfJob track job) (insideIn (marksAt k)) (headerOf job .ids) ≡ true
-  job-every-step k =
-      every-step table four (accepted-closed job lent accepted) (marksOfJob track job) start (accepted-clean job lent accepted) (proposalsOfJob track job) k
+  four : job .table .corners ≡ 4
+  four = job-corners f bytes ∙ corners
 
-  -- A proposal that passes the earlier tests on the marks then standing is refused exactly if taking it would break that.
-  pub job-five-cases : (k : ℕ) (p : Proposal) → PassesEarlier (tableOfJob track job) (marksAt k) p
-      → ((answer (tableOfJob track job) (marksAt k) p ≡ 0) ↔ (clean (tableOfJob track job) (insideIn (flipped (marksAt k) p)) (headerOf job .ids) ≡ true))
-      × ((answer (tableOfJob track job) (marksAt k) p ≡ 5) ↔ (clean (tableOfJob track job) (insideIn (flipped (marksAt k) p)) (headerOf job .ids) ≡ false))
+  closed : Closed (job .table) (job .ids)
+  closed = accepted-closed f bytes lent accepted
+
+  start : Marks (job .table) (job .marks)
+  start = record { one-each = accepted-length f bytes lent accepted; binary = accepted-marks f bytes lent accepted }
+
+  clean-start : cleanWith job (job .marks) ≡ true
+  clean-start = accepted-clean f bytes lent accepted
+
+  pub job-every-step : EveryStep (jobOf f bytes)
+  job-every-step k = every-step (job .table) four closed (job .marks) start clean-start (job .proposals) k
+
+  pub job-five-cases : CasesDecide (jobOf f bytes)
   job-five-cases k p off =
-      let (m, e) = all-steps table four (accepted-closed job lent accepted) (marksOfJob track job) start (accepted-clean job lent accepted) (take k (proposalsOfJob track job)) in
-      five-cases table four (accepted-closed job lent accepted) (marksAt k) m e p off
+      let (m, e) = all-steps (job .table) four closed (job .marks) start clean-start (take k (job .proposals)) in
+      five-cases (job .table) four closed (standing job k) m e p off
 
-  -- The taken proposals, run backwards with add and remove exchanged, are all taken and bring back the start.
-  pub job-backwards : AllTaken (tableOfJob track job) (finalMarks (tableOfJob track job) (marksOfJob track job) (proposalsOfJob track job))
-      (undoing (tableOfJob track job) (marksOfJob track job) (proposalsOfJob track job)) (marksOfJob track job)
-  job-backwards = backwards table four (accepted-closed job lent accepted) (marksOfJob track job) start (accepted-clean job lent accepted) (proposalsOfJob track job)
+  pub job-backwards : Backwards (jobOf f bytes)
+  job-backwards = backwards (job .table) four closed (job .marks) start clean-start (job .proposals)

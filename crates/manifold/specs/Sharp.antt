@@ -10,7 +10,7 @@ use Rattle.rules.specs.Below.{count}
 use Rattle.rules.specs.Table.{Table, tableOf}
 use Rattle.rules.specs.Skin.{onSkin, clean, skin}
 use Rattle.rules.specs.First.{firstMatch}
-use Rattle.rules.specs.Proposals.{Proposal, insideIn, answer}
+use Rattle.rules.specs.Proposals.{Proposal, insideIn, answer, RefusedByCases}
 use Rattle.rules.specs.Job.{tableTests}
 use Rattle.rules.specs.Worked.{ran, row, marked}
 use Rattle.manifold.specs.Steps.{flipped}
@@ -31,7 +31,7 @@ pub record Sharp : Type 0 where
   pub skin-empty : skin copies (insideIn second-inside) ≡ []
   pub skin-clean : clean copies (insideIn second-inside) 9 ≡ true
   pub f-is-0 : count 4 (onSkin copies (insideIn second-inside) 4) ≡ 0
-  pub refused : answer copies second-inside add-row-4 ≡ 5
+  pub refused : RefusedByCases (answer copies second-inside add-row-4)
   pub clean-with-it : clean copies (insideIn (flipped second-inside add-row-4)) 9 ≡ true
 
 pub sharp : Sharp

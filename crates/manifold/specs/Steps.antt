@@ -14,7 +14,7 @@ use Rattle.rules.specs.Below.{bit, only}
 use Rattle.rules.specs.Table.{Table}
 use Rattle.rules.specs.Skin.{clean}
 use Rattle.rules.specs.Cases.{passes}
-use Rattle.rules.specs.Proposals.{Proposal, insideIn, adds, answer, marksAfter, answersTo, finalMarks}
+use Rattle.rules.specs.Proposals.{Proposal, insideIn, adds, answer, RefusedByCases, marksAfter, answersTo, finalMarks}
 use Rattle.rules.specs.Laws.Truth.{not-both, is-true, is-false, same-or-not}
 use Rattle.rules.specs.Laws.Proposals.{answers-append, final-append}
 use Rattle.rules.specs.Laws.First.{conditionAt}
@@ -111,7 +111,7 @@ module _ (t : Table) (marks : List ℕ) (p : Proposal) where
         none q (suc (suc (suc (suc zero)))) = λ place (x, _). not-both q (passes-reads t (insideIn marks) (adds p) (p .row) .1 x)
         none q (suc (suc (suc (suc (suc i))))) = λ place c. c
 
-    refused-passes : (answer t marks p ≡ 5) ↔ (passes t (insideIn marks) (adds p) (p .row) ≡ false)
+    refused-passes : RefusedByCases (answer t marks p) ↔ (passes t (insideIn marks) (adds p) (p .row) ≡ false)
     refused-passes = (
       λ a. let (_, x) = answer-exactly t marks p 4 (lit< tt) .0 a in passes-reads t (insideIn marks) (adds p) (p .row) .1 (x .holds .0),
       λ n. answer-exactly t marks p 4 (lit< tt) .1 (0, record { holds = (passes-reads t (insideIn marks) (adds p) (p .row) .0 n, refl); none-before = off }),
@@ -216,10 +216,10 @@ module _ (t : Table) (four : t .corners ≡ 4) {idCount : ℕ} (closed : Closed 
       let x = passes-earlier t marks p .0 off in
       cases-decide t four closed (flip-at marks p (subst (λ (n : ℕ). p .row < n) (sym (m .one-each)) (x .row-below)) (x .this-side)) (x .row-below) (adds p) (x .this-side) e
 
-  -- Of a proposal that passes tests 1 to 4 the answer is 0 exactly if the skin with the named mark flipped is clean, and 5 exactly if it is not.
+  -- Of a proposal that passes tests 1 to 4 the answer is 0 exactly if the skin with the named mark flipped is clean, and that of the five cases exactly if it is not.
   pub five-cases : (marks : List ℕ) → Marks t marks → Clean marks → (p : Proposal) → PassesEarlier t marks p
       → ((answer t marks p ≡ 0) ↔ (clean t (insideIn (flipped marks p)) idCount ≡ true))
-      × ((answer t marks p ≡ 5) ↔ (clean t (insideIn (flipped marks p)) idCount ≡ false))
+      × (RefusedByCases (answer t marks p) ↔ (clean t (insideIn (flipped marks p)) idCount ≡ false))
   five-cases marks m e p off =
       let same = decides marks m e p off in
       let (tf, tb) = taken-passes t marks p off in

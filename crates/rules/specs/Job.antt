@@ -1,5 +1,5 @@
 -- The job file, its codes, the lent buffers, and the run.
-use Prim.Native.Nat.{ℕ, _+_, _-_, _*_}
+use Prim.Native.Nat.{ℕ, _+_, _-_, _*_, _/_}
 use mathlib.Core.Bool.{Bool, not, _&&_, _||_, cond}
 use mathlib.Core.List.{List, [], _∷_, _++_, flatten}
 use lib.Dec.{eqb, leb, ltb}
@@ -7,7 +7,7 @@ use lib.ListN.{length, getD, take, drop, replicate}
 use Rattle.rules.specs.Below.{lowest, tabulate}
 use Rattle.rules.specs.Words.{word}
 use Rattle.rules.specs.Table.{Table, tableOf, rising, idsBelow, before, outer, neighbourList, trianglesShared, edgesJoined, verticesJoined}
-use Rattle.rules.specs.Skin.{ringless, skin}
+use Rattle.rules.specs.Skin.{ringless, clean, skin}
 use Rattle.rules.specs.First.{Test, given, Verdict, firstMatch}
 use Rattle.rules.specs.Proposals as P
 use Rattle.rules.specs.Proposals.{Proposal, insideIn, answersTo, taken}
@@ -23,23 +23,37 @@ pub record Form : Type 0 where
 abbrev pub track : Form
 track = record { corners = 4; width = 4; mode = 0 }
 
--- V, N and P
+-- V, N, P and word 7
 pub record Header : Type 0 where
   pub ids : ℕ
   pub rows : ℕ
   pub proposals : ℕ
+  pub mode : ℕ
 
 abbrev pub headerWord : List ℕ → ℕ → ℕ
-headerWord job i = word 4 job (4 * i)
+headerWord bytes i = word 4 bytes (4 * i)
 
 unfoldable pub headerOf : List ℕ → Header
-headerOf job = record { ids = headerWord job 0; rows = headerWord job 1; proposals = headerWord job 2 }
+headerOf bytes = record { ids = headerWord bytes 0; rows = headerWord bytes 1; proposals = headerWord bytes 2; mode = headerWord bytes 7 }
+
+abbrev pub mostIds : ℕ
+mostIds = 1024
+
+abbrev pub mostRows : ℕ
+mostRows = 2048
+
+abbrev pub mostProposals : ℕ
+mostProposals = 1024
+
+-- the least V and N
+abbrev pub least : Form → ℕ
+least f = f .corners + 1
 
 abbrev pub within : ℕ → ℕ → ℕ → Bool
-within least n greatest = leb least n && leb n greatest
+within low n high = leb low n && leb n high
 
-unfoldable pub withinLimits : Header → Bool
-withinLimits h = within 5 (h .ids) 1024 && within 5 (h .rows) 2048 && within 0 (h .proposals) 1024
+unfoldable pub withinLimits : Form → Header → Bool
+withinLimits f h = within (least f) (h .ids) mostIds && within (least f) (h .rows) mostRows && within 0 (h .proposals) mostProposals
 
 abbrev pub rowBytes : Form → ℕ
 rowBytes f = f .corners * f .width
@@ -49,40 +63,70 @@ abbrev pub rowsAt : ℕ
 rowsAt = 32
 
 abbrev pub marksAt : Form → Header → ℕ
-marksAt f h = 32 + rowBytes f * h .rows
+marksAt f h = rowsAt + rowBytes f * h .rows
 
 abbrev pub proposalsAt : Form → Header → ℕ
-proposalsAt f h = 32 + (rowBytes f + 1) * h .rows
+proposalsAt f h = marksAt f h + h .rows
 
 abbrev pub wholeLength : Form → Header → ℕ
-wholeLength f h = 32 + (rowBytes f + 1) * h .rows + 8 * h .proposals
+wholeLength f h = proposalsAt f h + 8 * h .proposals
 
 -- words 3 to 7 are as the table of the header says, and word 6 is the length lent
 unfoldable pub laidOut : Form → Header → List ℕ → Bool
-laidOut f h job =
-    eqb (headerWord job 3) rowsAt && eqb (headerWord job 4) (marksAt f h) && eqb (headerWord job 5) (proposalsAt f h)
-    && eqb (headerWord job 6) (wholeLength f h) && eqb (headerWord job 7) (f .mode) && eqb (headerWord job 6) (length job)
+laidOut f h bytes =
+    eqb (headerWord bytes 3) rowsAt && eqb (headerWord bytes 4) (marksAt f h) && eqb (headerWord bytes 5) (proposalsAt f h)
+    && eqb (headerWord bytes 6) (wholeLength f h) && eqb (h .mode) (f .mode) && eqb (headerWord bytes 6) (length bytes)
 
 -- ---- what the sections hold
 
 abbrev pub section : List ℕ → ℕ → ℕ → List ℕ
-section job start size = take size (drop start job)
+section bytes start size = take size (drop start bytes)
 
--- the table that the bytes of so many rows stand for
+-- the ids that the bytes of so many rows stand for, row after row
+abbrev pub idsIn : Form → ℕ → List ℕ → List ℕ
+idsIn f n bytes = tabulate (f .corners * n) (λ k. word (f .width) bytes (f .width * k))
+
 unfoldable pub rowsTable : Form → ℕ → List ℕ → Table
-rowsTable f n bytes = tableOf (f .corners) n (tabulate (f .corners * n) (λ k. word (f .width) bytes (f .width * k)))
+rowsTable f n bytes = tableOf (f .corners) n (idsIn f n bytes)
 
 unfoldable pub proposalIn : List ℕ → ℕ → Proposal
 proposalIn bytes k = record { row = word 4 bytes (8 * k); kind = word 4 bytes (8 * k + 4) }
 
-unfoldable pub tableOfJob : Form → List ℕ → Table
-tableOfJob f job = let h = headerOf job in rowsTable f (h .rows) (section job rowsAt (rowBytes f * h .rows))
+-- V, the rows, the starting marks and the proposals
+pub record Job : Type 0 where
+  pub ids : ℕ
+  pub table : Table
+  pub marks : List ℕ
+  pub proposals : List Proposal
 
-unfoldable pub marksOfJob : Form → List ℕ → List ℕ
-marksOfJob f job = let h = headerOf job in section job (marksAt f h) (h .rows)
+unfoldable pub jobOf : Form → List ℕ → Job
+jobOf f bytes =
+    let h = headerOf bytes in
+    record {
+      ids = h .ids;
+      table = rowsTable f (h .rows) (section bytes rowsAt (rowBytes f * h .rows));
+      marks = section bytes (marksAt f h) (h .rows);
+      proposals = tabulate (h .proposals) (proposalIn (section bytes (proposalsAt f h) (8 * h .proposals)));
+    }
 
-unfoldable pub proposalsOfJob : Form → List ℕ → List Proposal
-proposalsOfJob f job = let h = headerOf job in tabulate (h .proposals) (proposalIn (section job (proposalsAt f h) (8 * h .proposals)))
+-- ---- a job's answers, marks and skins
+
+abbrev pub answersOf : Job → List ℕ
+answersOf job = answersTo (job .table) (job .marks) (job .proposals)
+
+-- the marks that stand after its first k proposals, and after the last
+abbrev pub standing : Job → ℕ → List ℕ
+standing job k = P.finalMarks (job .table) (job .marks) (take k (job .proposals))
+
+abbrev pub finalOf : Job → List ℕ
+finalOf job = P.finalMarks (job .table) (job .marks) (job .proposals)
+
+-- the skin of such marks, and that it is clean
+abbrev pub skinWith : Job → List ℕ → List (List ℕ)
+skinWith job marks = skin (job .table) (insideIn marks)
+
+abbrev pub cleanWith : Job → List ℕ → Bool
+cleanWith job marks = clean (job .table) (insideIn marks) (job .ids)
 
 -- ---- the lent buffers
 
@@ -92,19 +136,21 @@ pub record Lent : Type 0 where
   pub triangles : List ℕ
   pub work : List ℕ
 
-abbrev pub workRoom : Header → ℕ
-workRoom h = 4 * h .rows
+-- a neighbour for each corner of a row
+abbrev pub workRoom : Form → Header → ℕ
+workRoom f h = f .corners * h .rows
 
-abbrev pub triangleRoom : Header → ℕ
-triangleRoom h = 6 * h .rows
+-- the skin list: at most half of the triangles of all rows, an id for each of a triangle's corners
+abbrev pub listRoom : Form → Header → ℕ
+listRoom f h = f .corners * (f .corners - 1) / 2 * h .rows
 
 -- rooms of these lengths for answers, final marks, triangles and work are short
-unfoldable pub shortRooms : Header → ℕ → ℕ → ℕ → ℕ → Bool
-shortRooms h answers finalMarks triangles work =
-    ltb answers (h .proposals) || ltb finalMarks (h .rows) || ltb triangles (triangleRoom h) || ltb work (workRoom h)
+unfoldable pub shortRooms : Form → Header → ℕ → ℕ → ℕ → ℕ → Bool
+shortRooms f h answers finalMarks triangles work =
+    ltb answers (h .proposals) || ltb finalMarks (h .rows) || ltb triangles (listRoom f h) || ltb work (workRoom f h)
 
-unfoldable pub roomShort : Header → Lent → Bool
-roomShort h lent = shortRooms h (length (lent .answers)) (length (lent .finalMarks)) (length (lent .triangles)) (length (lent .work))
+unfoldable pub roomShort : Form → Header → Lent → Bool
+roomShort f h lent = shortRooms f h (length (lent .answers)) (length (lent .finalMarks)) (length (lent .triangles)) (length (lent .work))
 
 -- a buffer with these at its front, and all after them unchanged
 unfoldable pub written : List ℕ → List ℕ → List ℕ
@@ -112,28 +158,40 @@ written xs buffer = xs ++ drop (length xs) buffer
 
 -- ---- job codes: first match decides
 
+-- how many codes there are
+abbrev pub codes : ℕ
+codes = 12
+
 unfoldable pub layoutTests : Form → List ℕ → List Test
-layoutTests f job =
+layoutTests f bytes =
     -- 1: under 32 bytes
-    (λ _. given (ltb (length job) 32))
+    (λ _. given (ltb (length bytes) rowsAt))
     -- 2: V, N or P outside its limits
-    ∷ (λ _. given (not (withinLimits (headerOf job))))
+    ∷ (λ _. given (not (withinLimits f (headerOf bytes))))
     -- 3: a word 3 to 7 differs from the table, or word 6 from the length lent
-    ∷ (λ _. given (not (laidOut f (headerOf job) job)))
+    ∷ (λ _. given (not (laidOut f (headerOf bytes) bytes)))
     ∷ []
 
-unfoldable pub roomTests : Header → Lent → List Test
-roomTests h lent =
+unfoldable pub roomTests : Form → Header → Lent → List Test
+roomTests f h lent =
     -- 4: lent room short
-    (λ _. given (roomShort h lent))
+    (λ _. given (roomShort f h lent))
     ∷ []
+
+-- a row whose ids do not rise strictly, or are not all below V
+abbrev pub badRow : Table → ℕ → ℕ → Bool
+badRow t idCount r = not (rising t r && idsBelow t idCount r)
+
+-- a row that is not after the one before it
+abbrev pub notAfter : Table → ℕ → Bool
+notAfter t r = ltb 0 r && not (before t (r - 1) r)
 
 unfoldable pub tableTests : Table → ℕ → List Test
 tableTests t idCount =
     -- 5: a row's ids not strictly rising, or an id not below V
-    (λ _. lowest (t .rows) (λ r. not (rising t r && idsBelow t idCount r)))
+    (λ _. lowest (t .rows) (badRow t idCount))
     -- 6: a row not after the one before it
-    ∷ (λ _. lowest (t .rows) (λ r. ltb 0 r && not (before t (r - 1) r)))
+    ∷ (λ _. lowest (t .rows) (notAfter t))
     -- 7, 8, 9: triangle rule, edge rule, vertex rule broken
     ∷ (λ _. lowest (t .rows) (λ r. not (trianglesShared t r)))
     ∷ (λ _. lowest (t .rows) (λ r. not (edgesJoined t r)))
@@ -150,11 +208,12 @@ markTests t idCount marks =
     ∷ (λ _. lowest idCount (ringless t (insideIn marks) idCount))
     ∷ []
 
+-- what the sections hold: codes 5 to 12
+abbrev pub sectionTests : Job → List Test
+sectionTests job = tableTests (job .table) (job .ids) ++ markTests (job .table) (job .ids) (job .marks)
+
 unfoldable pub jobTests : Form → List ℕ → Lent → List Test
-jobTests f job lent =
-    let h = headerOf job in
-    let t = tableOfJob f job in
-    layoutTests f job ++ (roomTests h lent ++ (tableTests t (h .ids) ++ markTests t (h .ids) (marksOfJob f job)))
+jobTests f bytes lent = layoutTests f bytes ++ (roomTests f (headerOf bytes) lent ++ sectionTests (jobOf f bytes))
 
 -- ---- the run
 
@@ -167,11 +226,11 @@ pub record Result : Type 0 where
   pub left : Lent
 
 -- Code 0: P answers, N marks, the skin and the neighbour list at the front of their buffers.
-unfoldable pub accepted : Table → List ℕ → List Proposal → Lent → Result
-accepted t marks proposals lent =
-    let answers = answersTo t marks proposals in
-    let final = P.finalMarks t marks proposals in
-    let skinList = skin t (insideIn final) in
+unfoldable pub accepted : Job → Lent → Result
+accepted job lent =
+    let answers = answersOf job in
+    let final = finalOf job in
+    let skinList = skinWith job final in
     record {
       code = 0;
       place = 0;
@@ -181,13 +240,13 @@ accepted t marks proposals lent =
         answers = written answers (lent .answers);
         finalMarks = written final (lent .finalMarks);
         triangles = written (flatten skinList) (lent .triangles);
-        work = written (neighbourList t) (lent .work);
+        work = written (neighbourList (job .table)) (lent .work);
       };
     }
 
 -- A refusal changes nothing in answers, final marks and triangles. Codes 1 to 4 don't touch work; codes 5 to 12 leave zero in its front.
-unfoldable pub refused : Header → Verdict → Lent → Result
-refused h v lent = record {
+unfoldable pub refused : Form → Header → Verdict → Lent → Result
+refused f h v lent = record {
   code = v .code;
   place = v .place;
   taken = 0;
@@ -196,14 +255,14 @@ refused h v lent = record {
     answers = lent .answers;
     finalMarks = lent .finalMarks;
     triangles = lent .triangles;
-    work = cond (leb (v .code) 4) (lent .work) (written (replicate (workRoom h) 0) (lent .work));
+    work = cond (leb (v .code) 4) (lent .work) (written (replicate (workRoom f h) 0) (lent .work));
   };
 }
 
 unfoldable pub verdictOn : Form → List ℕ → Lent → Verdict
-verdictOn f job lent = firstMatch 1 (jobTests f job lent)
+verdictOn f bytes lent = firstMatch 1 (jobTests f bytes lent)
 
 unfoldable pub run : Form → List ℕ → Lent → Result
-run f job lent =
-    let v = verdictOn f job lent in
-    cond (eqb (v .code) 0) (accepted (tableOfJob f job) (marksOfJob f job) (proposalsOfJob f job) lent) (refused (headerOf job) v lent)
+run f bytes lent =
+    let v = verdictOn f bytes lent in
+    cond (eqb (v .code) 0) (accepted (jobOf f bytes) lent) (refused f (headerOf bytes) v lent)

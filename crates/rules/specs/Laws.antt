@@ -11,3 +11,4 @@ pub mod First
 pub mod Proposals
 pub mod Words
 pub mod Written
+pub mod Job

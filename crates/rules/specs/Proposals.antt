@@ -1,4 +1,5 @@
 -- Answers to proposals, and the marks after them.
+use mathlib.Core.Path.{_≡_}
 use Prim.Native.Nat.{ℕ, _+_}
 use mathlib.Core.Bool.{Bool, not, _||_, cond}
 use mathlib.Core.List.{List, [], _∷_}
@@ -37,6 +38,10 @@ answerTests t marks p =
 
 unfoldable pub answer : Table → List ℕ → Proposal → ℕ
 answer t marks p = firstMatch 1 (answerTests t marks p) .code
+
+-- of an answer: the five cases refuse, though nothing before them does
+abbrev pub RefusedByCases : ℕ → Type 0
+RefusedByCases a = a ≡ 5
 
 -- only answer 0 changes a mark, the named one
 unfoldable pub marksAfter : Table → List ℕ → Proposal → List ℕ

@@ -2,13 +2,13 @@
 -- This module is how they are written down.
 pub mod Document
 pub mod Ours
-use Prim.Native.Nat.{ℕ, zero, suc, _+_, _-_, _*_, _/_, _%_}
+use Prim.Native.Nat.{ℕ, _+_, _-_, _*_, _/_}
 use mathlib.Core.Bool.{cond}
 use mathlib.Core.List.{List, [], _∷_, _++_, flatten}
 use lib.Dec.{leb}
 use lib.ListN.{length, set, replicate}
 use Rattle.rules.specs.Below.{orElse, found, lowest, any, all, allBut, bit, sum, count, gather, tabulate, only, pick}
-use Rattle.rules.specs.Words.{word}
+use Rattle.rules.specs.Words.{word, words}
 use Rattle.rules.specs.Shape.{facet, edgeTable, vertices}
 use Rattle.rules.specs.Joined.{those, unreached, none-left, connected}
 use Rattle.rules.specs.Table.{tableOf, rising, idsBelow, before, holds, outer, side, neighbours, across, neighbourList, trianglesShared, holdsFace, faceJoined, facesJoined, edgesJoined, verticesJoined}
@@ -16,17 +16,9 @@ use Rattle.rules.specs.Skin.{onSkin, different, holdsThree, farEdge, far
 use Rattle.rules.specs.First.{given, firstMatch}
 use Rattle.rules.specs.Cases.{otherSide, free, passes}
 use Rattle.rules.specs.Proposals.{insideIn, adds, answerTests, answer, marksAfter, answersTo, finalMarks, taken}
-use Rattle.rules.specs.Job.{Lent, Result, track, headerOf, withinLimits, laidOut, rowsTable, proposalIn, tableOfJob, marksOfJob, proposalsOfJob, shortRooms, roomShort, written, layoutTests, roomTests, tableTests, markTests, jobTests, accepted, refused, verdictOn, run}
+use Rattle.rules.specs.Job.{Lent, Result, track, headerOf, withinLimits, laidOut, rowsTable, proposalIn, jobOf, shortRooms, roomShort, written, layoutTests, roomTests, tableTests, markTests, jobTests, accepted, refused, verdictOn, run}
 
 -- ---- a job's bytes
-
-abbrev pub bytesOf : ℕ → ℕ → List ℕ
-bytesOf zero n = []
-bytesOf (suc width) n = n % 256 ∷ bytesOf width (n / 256)
-
-abbrev pub words : List ℕ → List ℕ
-words [] = []
-words (n ∷ ns) = bytesOf 4 n ++ words ns
 
 -- the header that document 01 asks for at V, N and P
 abbrev pub header : ℕ → ℕ → ℕ → List ℕ
@@ -90,7 +82,7 @@ pub record Worked : Type 0 where
   pub result : Result
 
 unfoldable pub ran : Worked → Result
-unfolding withinLimits orElse found lowest any all allBut bit sum count gather tabulate only pick word facet edgeTable vertices those unreached none-left connected tableOf rising idsBelow before holds outer side neighbours across neighbourList trianglesShared holdsFace faceJoined facesJoined edgesJoined verticesJoined onSkin different holdsThree farEdge farEnd oneRing skinVertex ringless triangle skinOf skin given firstMatch otherSide free passes insideIn adds answerTests answer marksAfter answersTo finalMarks taken headerOf laidOut rowsTable proposalIn tableOfJob marksOfJob proposalsOfJob shortRooms roomShort written layoutTests roomTests tableTests markTests jobTests accepted refused verdictOn run flatten
+unfolding withinLimits orElse found lowest any all allBut bit sum count gather tabulate only pick word facet edgeTable vertices those unreached none-left connected tableOf rising idsBelow before holds outer side neighbours across neighbourList trianglesShared holdsFace faceJoined facesJoined edgesJoined verticesJoined onSkin different holdsThree farEdge farEnd oneRing skinVertex ringless triangle skinOf skin given firstMatch otherSide free passes insideIn adds answerTests answer marksAfter answersTo finalMarks taken headerOf laidOut rowsTable proposalIn jobOf shortRooms roomShort written layoutTests roomTests tableTests markTests jobTests accepted refused verdictOn run flatten
 ran w = run track (w .bytes) (w .lent)
 
 abbrev pub known : Worked → Result

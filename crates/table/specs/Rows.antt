@@ -1,15 +1,15 @@
 -- The table that the bytes of a row section stand for, and what a search for a row gives.
 use mathlib.Core.Path.{_≡_, refl, ap, _∙_}
-use mathlib.Core.Bool.{Bool, true, not, _&&_}
+use mathlib.Core.Bool.{true}
 use mathlib.Core.List.{List}
 use mathlib.Core.Option.{Option, some, none}
 use Prim.Native.Nat.{ℕ, _+_, _-_, _*_, _/_, _<_, _≤_}
 use native.Mathlib.Omega.{arith}
-use lib.Dec.{ltb}
 use lib.ListN.{length}
 use Rattle.rules.specs.Words.{word}
-use Rattle.rules.specs.Table.{Table, tableOf, rising, idsBelow, before}
+use Rattle.rules.specs.Table.{Table, tableOf, rising}
 use Rattle.rules.specs.Job.{track, rowsTable}
+pub use Rattle.rules.specs.Job.{badRow, notAfter}
 use Rattle.rules.specs.Laws.Lists.{tabulate-at}
 use Rattle.rules.specs.Reading.Rows.{Rising, rising-reads}
 use Rattle.table.specs.declared.Found.{Found}
@@ -39,13 +39,6 @@ pub record RisingRows (bytes : List ℕ) : Type 0 where
 
 pub each-rising : {bytes : List ℕ} → RisingRows bytes → (r : ℕ) → r < length bytes / 16 → Rising (tableIn bytes) r
 each-rising {bytes} rows r l = rising-reads (tableIn bytes) r .0 (rows .rise r l)
-
--- what codes 5 and 6 look for
-abbrev pub badRow : Table → ℕ → ℕ → Bool
-badRow t idCount r = not (rising t r && idsBelow t idCount r)
-
-abbrev pub notAfter : Table → ℕ → Bool
-notAfter t r = ltb 0 r && not (before t (r - 1) r)
 
 -- a place that was found, as an option
 abbrev pub placeOf : Found → Option ℕ

@@ -3,14 +3,14 @@ use mathlib.Core.Path.{_≡_, refl, sym, ap, _∙_}
 use mathlib.Core.Logic.{inl, inr, _≢_}
 use mathlib.Core.Bool.{Bool, true, false}
 use mathlib.Core.List.{List, _++_}
-use Prim.Native.Nat.{ℕ, _+_, _≤_, _<_}
+use Prim.Native.Nat.{ℕ, _≤_, _<_}
 use native.Mathlib.Omega.{arith}
 use lib.Dec.{leb, lit<}
 use lib.ListN.{length}
 use borrow.Author.Tests.{ne-eqb}
 use Rattle.rules.specs.Below.{found}
 use Rattle.rules.specs.First.{Test, given, Verdict, firstMatch}
-use Rattle.rules.specs.Job.{track, headerOf, withinLimits, laidOut, shortRooms, roomShort, layoutTests, roomTests, tableTests, markTests, jobTests, tableOfJob, marksOfJob, proposalsOfJob, Lent, refused, Result, verdictOn, run}
+use Rattle.rules.specs.Job.{track, headerOf, withinLimits, laidOut, shortRooms, roomShort, mostRows, jobOf, layoutTests, roomTests, sectionTests, jobTests, Lent, refused, Result, verdictOn, run}
 use Rattle.rules.specs.Laws.Truth.{not-both}
 use Rattle.rules.specs.Laws.First.{match-append, match-front, match-here, match-later}
 use Rattle.rules.specs.Reading.Codes.{limits-read, laid-out-reads, RoomShort, room-reads}
@@ -21,11 +21,11 @@ use Rattle.job.specs.Reading.{meant, header, codeOf, readingOf, reading-verdict
 use Rattle.track.specs.declared.Outcome.{Outcome}
 use Rattle.track.specs.Outcomes.{result, refusal}
 use Rattle.track.specs.Stages as stages
-use Rattle.track.specs.Stages.{decided, run-decided}
+use Rattle.track.specs.Stages.{decided, run-decided, fromTable}
 
 module _ (job : List ℕ) (buffers : Lent) where
-  rest : List Test
-  rest = tableTests (tableOfJob track job) (headerOf job .ids) ++ markTests (tableOfJob track job) (headerOf job .ids) (marksOfJob track job)
+  abbrev rest : List Test
+  rest = sectionTests (jobOf track job)
 
   early : {v : Verdict} → verdictOn track job buffers ≡ v → v .code ≢ 0 → leb (v .code) 4 ≡ true → result (refusal v) buffers ≡ run track job buffers
   unfolding decided refused
@@ -34,32 +34,32 @@ module _ (job : List ℕ) (buffers : Lent) where
   -- a header that is not laid out
   pub header-refused : {r : Reading} → r ≡ readingOf job → {o : Outcome} → o ≡ refusal (record { code = codeOf r; place = 0 }) → codeOf r ≢ 0 → leb (codeOf r) 4 ≡ true
       → result o buffers ≡ run track job buffers
-  unfolding verdictOn jobTests rest
+  unfolding verdictOn jobTests
   header-refused {r} is told ne small = rw told (early verdict ne small)
     where
       layout : firstMatch 1 (layoutTests track job) ≡ record { code = codeOf r; place = 0 }
       layout = reading-verdict job ∙ ap (λ (x : Reading). record { code = codeOf x; place = 0 }) (sym is)
 
-      verdict : firstMatch 1 (layoutTests track job ++ (roomTests (headerOf job) buffers ++ rest)) ≡ record { code = codeOf r; place = 0 }
-      verdict = match-front 1 (layoutTests track job) (roomTests (headerOf job) buffers ++ rest) (λ z. ne (ap (λ (v : Verdict). v .code) (sym layout) ∙ z)) ∙ layout
+      verdict : firstMatch 1 (layoutTests track job ++ (roomTests track (headerOf job) buffers ++ rest)) ≡ record { code = codeOf r; place = 0 }
+      verdict = match-front 1 (layoutTests track job) (roomTests track (headerOf job) buffers ++ rest) (λ z. ne (ap (λ (v : Verdict). v .code) (sym layout) ∙ z)) ∙ layout
 
   module _ {r : Reading} (is : r ≡ readingOf job) {h : Header} (laid : r ≡ Laid h) where
-    facts : (h ≡ header job) × (withinLimits (headerOf job) ≡ true) × (laidOut track (headerOf job) job ≡ true)
+    facts : (h ≡ header job) × (withinLimits track (headerOf job) ≡ true) × (laidOut track (headerOf job) job ≡ true)
     facts = laid-header job h (sym is ∙ laid)
 
-    pub few-rows : h .rows ≤ 2048
-    few-rows = let ((_, (_, n)), _) = limits-read (headerOf job) .0 (facts .1) in rw (facts .0) n
+    pub few-rows : h .rows ≤ mostRows
+    few-rows = let ((_, (_, n)), _) = limits-read track (headerOf job) .0 (facts .1) in rw (facts .0) n
 
-    from-room : verdictOn track job buffers ≡ firstMatch 4 (roomTests (headerOf job) buffers ++ rest)
-    unfolding verdictOn jobTests layoutTests rest
+    from-room : verdictOn track job buffers ≡ firstMatch 4 (roomTests track (headerOf job) buffers ++ rest)
+    unfolding verdictOn jobTests layoutTests
     from-room =
-        match-append 1 (lit< tt) (layoutTests track job) (roomTests (headerOf job) buffers ++ rest)
+        match-append 1 (lit< tt) (layoutTests track job) (roomTests track (headerOf job) buffers ++ rest)
         (ap (λ (v : Verdict). v .code) (reading-verdict job) ∙ ap codeOf (sym is ∙ laid))
 
-    module _ {short : Bool} (told-short : short ≡ shortRooms (meant h) (length (buffers .answers)) (length (buffers .finalMarks)) (length (buffers .triangles)) (length (buffers .work))) where
-      short-is : short ≡ roomShort (headerOf job) buffers
+    module _ {short : Bool} (told-short : short ≡ shortRooms track (meant h) (length (buffers .answers)) (length (buffers .finalMarks)) (length (buffers .triangles)) (length (buffers .work))) where
+      short-is : short ≡ roomShort track (headerOf job) buffers
       unfolding roomShort
-      short-is = told-short ∙ ap (λ (x : Header). shortRooms (meant x) (length (buffers .answers)) (length (buffers .finalMarks)) (length (buffers .triangles)) (length (buffers .work))) (facts .0)
+      short-is = told-short ∙ ap (λ (x : Header). shortRooms track (meant x) (length (buffers .answers)) (length (buffers .finalMarks)) (length (buffers .triangles)) (length (buffers .work))) (facts .0)
 
       pub room-refused : short ≡ true → {o : Outcome} → o ≡ refusal (record { code = 4; place = 0 }) → result o buffers ≡ run track job buffers
       unfolding roomTests given found
@@ -69,8 +69,8 @@ module _ (job : List ℕ) (buffers : Lent) where
       module _ (off : short ≡ false) where
         pub laid-out : stages.Laid h job buffers
         laid-out =
-            let (((_, ids), (_, rows)), (_, proposals)) = limits-read (headerOf job) .0 (facts .1) in
-            let (((_, six), _), whole) = laid-out-reads (headerOf job) job .0 (facts .2) in
+            let (((_, ids), (_, rows)), (_, proposals)) = limits-read track (headerOf job) .0 (facts .1) in
+            let (((_, six), _), whole) = laid-out-reads track (headerOf job) job .0 (facts .2) in
             record {
               is = facts .0;
               few-ids = rw (facts .0) ids;
@@ -83,17 +83,15 @@ module _ (job : List ℕ) (buffers : Lent) where
               work-room = rw (facts .0) (enough inr);
             }
           where
-            enough : {n m : ℕ} → (n < m → RoomShort (headerOf job) buffers) → m ≤ n
+            enough : {n m : ℕ} → (n < m → RoomShort track (headerOf job) buffers) → m ≤ n
             enough {n} {m} why =
-                let no : n < m → ⊥ = λ (x : n < m). not-both (room-reads (headerOf job) buffers .1 (why x)) (sym short-is ∙ off) in
+                let no : n < m → ⊥ = λ (x : n < m). not-both (room-reads track (headerOf job) buffers .1 (why x)) (sym short-is ∙ off) in
                 omega (arith, no)
 
-        pub room-enough : {r : Result} → r ≡ decided (meant h) (firstMatch 5 (tableTests (tableOfJob track job) (h .ids) ++ markTests (tableOfJob track job) (h .ids) (marksOfJob track job)))
-            (tableOfJob track job) (marksOfJob track job) (proposalsOfJob track job) buffers → r ≡ run track job buffers
-        unfolding roomTests given found rest
+        pub room-enough : {r : Result} → r ≡ fromTable h (jobOf track job) buffers → r ≡ run track job buffers
+        unfolding roomTests given found
         room-enough e =
-            e ∙ ap (λ (x : Header). decided (meant x) (firstMatch 5 (tableTests (tableOfJob track job) (x .ids) ++ markTests (tableOfJob track job) (x .ids) (marksOfJob track job)))
-            (tableOfJob track job) (marksOfJob track job) (proposalsOfJob track job) buffers) (facts .0)
-            ∙ ap (λ (v : Verdict). decided (headerOf job) v (tableOfJob track job) (marksOfJob track job) (proposalsOfJob track job) buffers)
+            e ∙ ap (λ (x : Header). fromTable x (jobOf track job) buffers) (facts .0)
+            ∙ ap (λ (v : Verdict). decided (headerOf job) v (jobOf track job) buffers)
             (sym (from-room ∙ match-later 4 _ _ (ap (λ (b : Bool). found b 0) (sym short-is ∙ off))))
             ∙ run-decided job buffers

@@ -14,7 +14,7 @@ use Rattle.rules.specs.First.{Test, Verdict, firstMatch}
 use Rattle.rules.specs.Skin.{skin}
 use Rattle.rules.specs.Proposals.{Proposal, insideIn, answersTo, finalMarks, taken}
 use Rattle.rules.specs.Job as rules
-use Rattle.rules.specs.Job.{track, headerOf, tableOfJob, marksOfJob, proposalsOfJob, Lent, written, markTests, Result, accepted, refused, verdictOn, run}
+use Rattle.rules.specs.Job.{track, headerOf, mostIds, mostRows, mostProposals, wholeLength, Job, jobOf, Lent, workRoom, listRoom, written, markTests, sectionTests, Result, accepted, refused, verdictOn, run}
 use Rattle.rules.specs.Laws.Proposals.{final-length}
 use Rattle.rules.specs.Laws.First.{match-code}
 use Rattle.rules.specs.Laws.Written.{written-length, written-at}
@@ -29,12 +29,23 @@ use Rattle.track.specs.declared.Outcome.{Outcome}
 use Rattle.track.specs.Outcomes.{lent, result, refusal}
 
 -- the verdict decides: accepted, or refused
-unfoldable pub decided : rules.Header → Verdict → Table → List ℕ → List Proposal → Lent → Result
-decided h v t marks proposals lent = cond (eqb (v .code) 0) (accepted t marks proposals lent) (refused h v lent)
+unfoldable pub decided : rules.Header → Verdict → Job → Lent → Result
+decided h v job lent = cond (eqb (v .code) 0) (accepted job lent) (refused track h v lent)
 
-pub run-decided : (job : List ℕ) (lent : Lent) → decided (headerOf job) (verdictOn track job lent) (tableOfJob track job) (marksOfJob track job) (proposalsOfJob track job) lent ≡ run track job lent
+pub run-decided : (bytes : List ℕ) (lent : Lent) → decided (headerOf bytes) (verdictOn track bytes lent) (jobOf track bytes) lent ≡ run track bytes lent
 unfolding run decided
-run-decided job lent = refl
+run-decided bytes lent = refl
+
+-- the job of V and of the bytes of its sections
+abbrev pub jobIn : ℕ → List ℕ → List ℕ → List ℕ → Job
+jobIn ids rows marks proposals = record { ids = ids; table = tableIn rows; marks = marks; proposals = proposalsIn proposals }
+
+-- what is still to be decided of a job when its table is looked at, and when its marks are
+abbrev pub fromTable : Header → Job → Lent → Result
+fromTable h job = decided (meant h) (firstMatch 5 (sectionTests job)) job
+
+abbrev pub fromMarks : Header → Job → Lent → Result
+fromMarks h job = decided (meant h) (firstMatch 10 (markTests (job .table) (job .ids) (job .marks))) job
 
 -- ---- what each stage may rest on
 
@@ -75,14 +86,14 @@ the-marks s = record { ground = the-ground (s .grounded); below = s .below .belo
 -- a job that is laid out, and rooms that are not short
 pub record Laid (h : Header) (job : List ℕ) (buffers : Lent) : Type 0 where
   pub is : h ≡ header job
-  pub few-ids : h .ids ≤ 1024
-  pub few : h .rows ≤ 2048
-  pub few-proposals : h .proposals ≤ 1024
-  pub long : length job ≡ 32 + 17 * h .rows + 8 * h .proposals
+  pub few-ids : h .ids ≤ mostIds
+  pub few : h .rows ≤ mostRows
+  pub few-proposals : h .proposals ≤ mostProposals
+  pub long : length job ≡ wholeLength track (meant h)
   pub answer-room : h .proposals ≤ length (buffers .answers)
   pub mark-room : h .rows ≤ length (buffers .finalMarks)
-  pub triangle-room : 6 * h .rows ≤ length (buffers .triangles)
-  pub work-room : 4 * h .rows ≤ length (buffers .work)
+  pub triangle-room : listRoom track (meant h) ≤ length (buffers .triangles)
+  pub work-room : workRoom track (meant h) ≤ length (buffers .work)
 
 -- ---- the verdict on the marks
 
@@ -93,16 +104,16 @@ module _ {h : Header} {rows marks proposals : List ℕ} {buffers : Lent} (s : St
     {v : Verdict} (is : v ≡ firstMatch 10 (markTests (tableIn rows) (h .ids) marks)) {o : Outcome} (told : o ≡ refusal v) where
   pub marks-refused : {work : List ℕ} → o .code ≢ 0 → work ≡ written (replicate (4 * (length rows / 16)) 0) (buffers .work)
       → result o (lent (buffers .answers) (buffers .finalMarks) (buffers .triangles) work)
-      ≡ decided (meant h) (firstMatch 10 (markTests (tableIn rows) (h .ids) marks)) (tableIn rows) marks (proposalsIn proposals) buffers
+      ≡ fromMarks h (jobIn (h .ids) rows marks proposals) buffers
   unfolding decided refused
   marks-refused ne ew =
       let off : v .code ≢ 0 = λ z. ne (ap (λ (x : Outcome). x .code) told ∙ z) in
       rw (told, ← is, ne-eqb (v .code) 0 off, ap (λ (w : Verdict). leb (w .code) 4) is ∙ late 10 (lit≤ tt) (markTests (tableIn rows) (h .ids) marks) (λ z. off (ap (λ (w : Verdict). w .code) is ∙ z)), s .counted, ew)
 
-  pub marks-accepted : o .code ≡ 0 → {r : Result} → r ≡ accepted (tableIn rows) marks (proposalsIn proposals) buffers
-      → r ≡ decided (meant h) (firstMatch 10 (markTests (tableIn rows) (h .ids) marks)) (tableIn rows) marks (proposalsIn proposals) buffers
+  pub marks-accepted : o .code ≡ 0 → {r : Result} → ((ids : ℕ) → r ≡ accepted (jobIn ids rows marks proposals) buffers)
+      → r ≡ fromMarks h (jobIn (h .ids) rows marks proposals) buffers
   unfolding decided
-  marks-accepted z e = rw (← is, sym (ap (λ (x : Outcome). x .code) told) ∙ z) e
+  marks-accepted z e = rw (← is, sym (ap (λ (x : Outcome). x .code) told) ∙ z) (e (h .ids))
 
 -- ---- the front of the final marks, lent by itself
 
@@ -137,15 +148,15 @@ pub final-room : {rows marks proposals : List ℕ} {buffers : Lent} → Grounded
 final-room {rows} {marks} {proposals} {buffers} g e =
     rw (e, written-length (finalMarks (tableIn rows) marks (proposalsIn proposals)) (buffers .finalMarks) (rw (final-length (tableIn rows) marks (proposalsIn proposals), g .each) (g .mark-room))) (g .mark-room)
 
--- what an accepted job leaves, once its marks are answered and its skin is listed
+-- what an accepted job leaves, whatever its V, once its marks are answered and its skin is listed
 pub grown : {rows marks proposals : List ℕ} {buffers : Lent} → Grounded rows marks proposals buffers → {count taken-count : ℕ} {answers final triangles : List ℕ}
     → taken-count ≡ taken (answersTo (tableIn rows) marks (proposalsIn proposals)) → answers ≡ written (answersTo (tableIn rows) marks (proposalsIn proposals)) (buffers .answers)
     → final ≡ written (finalMarks (tableIn rows) marks (proposalsIn proposals)) (buffers .finalMarks)
     → count ≡ length (skin (tableIn rows) (insideIn (take (length rows / 16) final)))
-    → triangles ≡ written (flatten (skin (tableIn rows) (insideIn (take (length rows / 16) final)))) (buffers .triangles)
-    → result (record { code = 0; place = 0; taken = taken-count; triangles = count }) (lent answers final triangles (buffers .work)) ≡ accepted (tableIn rows) marks (proposalsIn proposals) buffers
+    → triangles ≡ written (flatten (skin (tableIn rows) (insideIn (take (length rows / 16) final)))) (buffers .triangles) → (ids : ℕ)
+    → result (record { code = 0; place = 0; taken = taken-count; triangles = count }) (lent answers final triangles (buffers .work)) ≡ accepted (jobIn ids rows marks proposals) buffers
 unfolding accepted
-grown {rows} {marks} {proposals} {buffers} g {final = final} et ea ef ec el =
+grown {rows} {marks} {proposals} {buffers} g {final = final} et ea ef ec el ids =
     rw (et, ea, ec, el, front, ef) (ap (λ (w : List ℕ). result (record { code = 0; place = 0; taken = taken given; triangles = length sk }) (lent (written given (buffers .answers)) (written ms (buffers .finalMarks)) (written (flatten sk) (buffers .triangles)) w)) (g .listed))
   where
     given : List ℕ

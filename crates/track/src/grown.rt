@@ -4,7 +4,7 @@ use growth::answer_all;
 use skin_list::list_skin;
 ghost use mathlib.Core.Path.{_≡_};
 ghost use mathlib.Core.List.{flatten};
-ghost use Prim.Native.Nat.{_*_, _/_, _≤_};
+ghost use Prim.Native.Nat.{ℕ, _*_, _/_, _≤_};
 ghost use lib.ListN.{length, take};
 ghost use Rattle.rules.specs.Skin.{skin};
 ghost use Rattle.rules.specs.Proposals.{insideIn, answersTo, finalMarks, taken};
@@ -13,7 +13,7 @@ ghost use Rattle.table.specs.Rows.{tableIn};
 ghost use Rattle.skin.specs.Ground.{Ground};
 ghost use Rattle.growth.specs.Answers.{proposalsIn};
 ghost use Rattle.track.specs.Outcomes.{lent, result};
-ghost use Rattle.track.specs.Stages.{Grounded};
+ghost use Rattle.track.specs.Stages.{jobIn, Grounded};
 
 fn copy(from: &[u8], to: &mut [u8])
     requires { ⌜ length (now from) ≤ length (now to) ⌝ }
@@ -65,8 +65,8 @@ pub(crate) fn grow(
     work: &[u32],
 ) -> Outcome
     requires { ⌜ Grounded (now rows) (now marks) (now proposals) (lent (now answers) (now «final_marks») (now triangles) (now work)) ⌝ }
-    ensures { λ r. ⌜ result r (lent (now (answers .exit)) (now («final_marks» .exit)) (now (triangles .exit)) (now (work .entry)))
-        ≡ accepted (tableIn (now (rows .entry))) (now (marks .entry)) (proposalsIn (now (proposals .entry))) (lent (now (answers .entry)) (now («final_marks» .entry)) (now (triangles .entry)) (now (work .entry))) ⌝ }
+    ensures { λ r. ⌜ ((ids : ℕ) → result r (lent (now (answers .exit)) (now («final_marks» .exit)) (now (triangles .exit)) (now (work .entry)))
+        ≡ accepted (jobIn ids (now (rows .entry)) (now (marks .entry)) (now (proposals .entry))) (lent (now (answers .entry)) (now («final_marks» .entry)) (now (triangles .entry)) (now (work .entry)))) ⌝ }
 {
     let taken = answer_copied(rows, marks, proposals, answers, final_marks, work);
     let count = list_front(rows, final_marks, triangles, work);

@@ -12,17 +12,11 @@ use table::Broken;
 use table::check;
 use table::clear;
 ghost use mathlib.Core.Path.{_≡_};
-ghost use mathlib.Core.List.{_++_};
-ghost use Prim.Native.Nat.{_*_, _/_};
-ghost use Rattle.rules.specs.First.{firstMatch};
-ghost use Rattle.rules.specs.Job.{track, tableOfJob, marksOfJob, proposalsOfJob, tableTests, markTests, run};
-ghost use Rattle.job.specs.Reading.{meant};
-ghost use Rattle.table.specs.Rows.{tableIn};
+ghost use Rattle.rules.specs.Job.{track, jobOf, run};
 ghost use Rattle.table.specs.Closed as closed;
 ghost use Rattle.marks.specs.Start as start;
-ghost use Rattle.growth.specs.Answers.{proposalsIn};
 ghost use Rattle.track.specs.Outcomes.{refusal, lent, result};
-ghost use Rattle.track.specs.Stages.{decided, Standing, Laid};
+ghost use Rattle.track.specs.Stages.{jobIn, fromTable, fromMarks, Standing, Laid};
 
 // Code and place as document 01 has them, and the numbers of proposals taken and of skin triangles.
 pub struct Outcome {
@@ -82,7 +76,7 @@ fn run_closed(
 ) -> Outcome
     requires { ⌜ Standing h (now rows) (now marks) (now proposals) (lent (now answers) (now «final_marks») (now triangles) (now work)) ⌝ }
     ensures { λ r. ⌜ result r (lent (now (answers .exit)) (now («final_marks» .exit)) (now (triangles .exit)) (now (work .exit)))
-        ≡ decided (meant h) (firstMatch 10 (markTests (tableIn (now (rows .entry))) (h .ids) (now (marks .entry)))) (tableIn (now (rows .entry))) (now (marks .entry)) (proposalsIn (now (proposals .entry)))
+        ≡ fromMarks h (jobIn (h .ids) (now (rows .entry)) (now (marks .entry)) (now (proposals .entry)))
         (lent (now (answers .entry)) (now («final_marks» .entry)) (now (triangles .entry)) (now (work .entry))) ⌝ }
 {
     let found = of_marks(check_marks(rows, work, marks, h.ids));
@@ -112,8 +106,7 @@ fn run_laid(
 ) -> Outcome
     requires { ⌜ Laid h (now job) (lent (now answers) (now «final_marks») (now triangles) (now work)) ⌝ }
     ensures { λ r. ⌜ result r (lent (now (answers .exit)) (now («final_marks» .exit)) (now (triangles .exit)) (now (work .exit)))
-        ≡ decided (meant h) (firstMatch 5 (tableTests (tableOfJob track (now (job .entry))) (h .ids) ++ markTests (tableOfJob track (now (job .entry))) (h .ids) (marksOfJob track (now (job .entry)))))
-        (tableOfJob track (now (job .entry))) (marksOfJob track (now (job .entry))) (proposalsOfJob track (now (job .entry)))
+        ≡ fromTable h (jobOf track (now (job .entry)))
         (lent (now (answers .entry)) (now («final_marks» .entry)) (now (triangles .entry)) (now (work .entry))) ⌝ }
 {
     let rows_at = h.rows_at();

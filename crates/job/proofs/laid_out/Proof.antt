@@ -30,9 +30,6 @@ whole-length-requires c κs = search needs
 header-word-requires-5 : tie.Need-header-word-requires-5
 header-word-requires-5 c κs = search needs
 
-header-word-requires-6 : tie.Need-header-word-requires-6
-header-word-requires-6 c κs = search needs
-
 returns : tie.Need-returns
 unfolding laidOut
 returns c = cc
@@ -50,5 +47,4 @@ laid-out-spec =
     header-word-requires-4
     whole-length-requires
     header-word-requires-5
-    header-word-requires-6
     returns)

@@ -1,18 +1,17 @@
-use mathlib.Core.Path.{refl}
 use Rattle.rules.specs.Job.{shortRooms}
 use borrow.Author.Needs.{needs}
 use Rattle.job.proofs.room_short.Statement.{statement}
 use Rattle.job.proofs.room_short.Tie as tie
 
-mul-result : tie.Need-mul-result
-mul-result c = search needs
+list-room-requires : tie.Need-list-room-requires
+list-room-requires c κs = search needs
 
-mul-result-2 : tie.Need-mul-result-2
-mul-result-2 c = search needs
+work-room-requires : tie.Need-work-room-requires
+work-room-requires c κs = search needs
 
 returns : tie.Need-returns
 unfolding shortRooms
-returns c = refl
+returns c = cc
 
 pub room-short-spec : {M : Type 1} → statement M
-room-short-spec = tie.close (tie.spec mul-result mul-result-2 returns)
+room-short-spec = tie.close (tie.spec list-room-requires work-room-requires returns)

@@ -180,6 +180,20 @@ code-reads code pos tests conditions reads i l = (
   λ (place, f). ap (λ (v : Verdict). v .code) (first-reads code pos tests conditions reads i place l .1 f),
 )
 
+-- ---- where a condition can hold
+
+-- each condition holds only at places with the property, and may rest on it that those before it hold nowhere
+abbrev pub Places : (ℕ → Type 0) → List (ℕ → Type 0) → Type 0
+Places P [] = Unit
+Places P (condition ∷ conditions) = ((place : ℕ) → condition place → P place) × (((place : ℕ) → condition place → ⊥) → Places P conditions)
+
+pub first-place : (P : ℕ → Type 0) (conditions : List (ℕ → Type 0)) → Places P conditions → (i place : ℕ) → FirstOf conditions i place → P place
+first-place P [] places i place f = absurd (f .holds)
+first-place P (condition ∷ conditions) (here, later) zero place f = here place (f .holds)
+first-place P (condition ∷ conditions) (here, later) (suc i) place f =
+    first-place P conditions (later (f .none-before 0 (zero-lt-suc i))) i place
+    (record { holds = f .holds; none-before = λ j l other c. f .none-before (suc j) (suc-le-suc l) other c })
+
 -- a test whose place is 0
 pub given-reads : {b : Bool} {P : Type 0} → (b ≡ true) ↔ P → (place : ℕ) → (given b ≡ some place) ↔ (P × (place ≡ 0))
 unfolding given found

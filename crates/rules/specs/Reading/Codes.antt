@@ -1,13 +1,13 @@
 -- The twelve codes: each is given, with its place, exactly if its condition holds there and none before it does; and what each leaves.
-use mathlib.Core.Path.{_≡_, refl, sym, ap, _∙_}
+use mathlib.Core.Path.{_≡_, sym, ap, _∙_}
 use mathlib.Core.Logic.{_⊎_, ⊎-elim, _↔_, _≢_}
 use mathlib.Core.Bool.{Bool, true, not, _&&_, _||_}
 use mathlib.Core.Option.{none}
 use mathlib.Core.List.{List, [], _∷_, _++_}
-use Prim.Native.Nat.{ℕ, zero, suc, _+_, _-_, _*_, _≤_, _<_}
+use Prim.Native.Nat.{ℕ, zero, suc, _+_, _-_, _≤_, _<_}
 use native.Mathlib.Nat.{zero-lt-suc}
 use native.Mathlib.Omega.{arith}
-use lib.Dec.{eqb, ltb}
+use lib.Dec.{eqb}
 use lib.ListN.{length, getD, drop, replicate, length-replicate, length-drop}
 use lib.Seq.{length-take-le}
 use borrow.Author.Tests.{ne-eqb, not-false, lt-ltb, le-leb, lt-leb}
@@ -16,7 +16,8 @@ use Rattle.rules.specs.Table.{Table, tableOf, rising, idsBelow, before, 
 use Rattle.rules.specs.Skin.{onSkin, oneRing, ringless, clean}
 use Rattle.rules.specs.First.{Test, Verdict, firstMatch}
 use Rattle.rules.specs.Proposals.{insideIn}
-use Rattle.rules.specs.Job.{track, Header, headerWord, headerOf, within, withinLimits, laidOut, rowsTable, tableOfJob, marksOfJob, proposalsOfJob, Lent, shortRooms, roomShort, written, layoutTests, roomTests, tableTests, markTests, jobTests, Result, accepted, refused, verdictOn, run}
+use Rattle.rules.specs.Job.{Form, Header, headerWord, headerOf, mostIds, mostRows, mostProposals, least, within, withinLimits, rowsAt, marksAt, proposalsAt, wholeLength, laidOut, rowsTable, Job, jobOf, cleanWith, Lent, workRoom, listRoom, shortRooms, roomShort, written, codes, layoutTests, roomTests, badRow, notAfter, tableTests, markTests, sectionTests, jobTests, Result, accepted, refused, verdictOn, run}
+use Rattle.rules.specs.Laws.Job.{job-corners}
 use Rattle.rules.specs.Laws.Truth.{is-true, not-both, and-both, not-reads, and-reads, or-reads, eqb-reads, ltb-reads, leb-reads, same-or-not}
 use Rattle.rules.specs.Laws.Below.{lowest-none, none-any}
 use Rattle.rules.specs.Laws.First.{Reads, FirstOf, conditionAt, first-reads, none-reads, given-reads, given-none, match-parts, match-below, match-zero, match-none}
@@ -28,48 +29,49 @@ use Rattle.rules.specs.Reading.Ring.{OneRing, ring-map, one-ring-reads}
 -- ---- the header and the room
 
 abbrev pub Within : ℕ → ℕ → ℕ → Type 0
-Within least n greatest = (least ≤ n) × (n ≤ greatest)
+Within low n high = (low ≤ n) × (n ≤ high)
 
--- V 5 to 1,024, N 5 to 2,048, P 0 to 1,024
-abbrev pub WithinLimits : Header → Type 0
-WithinLimits h = (Within 5 (h .ids) 1024 × Within 5 (h .rows) 2048) × Within 0 (h .proposals) 1024
+module _ (f : Form) where
+  -- for a track V 5 to 1,024, N 5 to 2,048, P 0 to 1,024
+  abbrev pub WithinLimits : Header → Type 0
+  WithinLimits h = (Within (least f) (h .ids) mostIds × Within (least f) (h .rows) mostRows) × Within 0 (h .proposals) mostProposals
 
-pub limits-read : (h : Header) → (withinLimits h ≡ true) ↔ WithinLimits h
-unfolding withinLimits
-limits-read h =
-    and-reads (and-reads (range 5 (h .ids) 1024) (range 5 (h .rows) 2048)) (range 0 (h .proposals) 1024)
-  where
-    range : (least n greatest : ℕ) → (within least n greatest ≡ true) ↔ Within least n greatest
-    range least n greatest = and-reads (leb-reads least n) (leb-reads n greatest)
+  pub limits-read : (h : Header) → (withinLimits f h ≡ true) ↔ WithinLimits h
+  unfolding withinLimits
+  limits-read h =
+      and-reads (and-reads (range (least f) (h .ids) mostIds) (range (least f) (h .rows) mostRows)) (range 0 (h .proposals) mostProposals)
+    where
+      range : (low n high : ℕ) → (within low n high ≡ true) ↔ Within low n high
+      range low n high = and-reads (leb-reads low n) (leb-reads n high)
 
--- words 3 to 7 are 32, 32 + 16N, 32 + 17N, 32 + 17N + 8P and 0, and word 6 is the length lent
-abbrev pub LaidOut : Header → List ℕ → Type 0
-LaidOut h job =
-    (((((headerWord job 3 ≡ 32) × (headerWord job 4 ≡ 32 + 16 * h .rows)) × (headerWord job 5 ≡ 32 + 17 * h .rows))
-    × (headerWord job 6 ≡ 32 + 17 * h .rows + 8 * h .proposals)) × (headerWord job 7 ≡ 0)) × (headerWord job 6 ≡ length job)
+  -- words 3 to 7 are, for a track, 32, 32 + 16N, 32 + 17N, 32 + 17N + 8P and 0, and word 6 is the length lent
+  abbrev pub LaidOut : Header → List ℕ → Type 0
+  LaidOut h bytes =
+      (((((headerWord bytes 3 ≡ rowsAt) × (headerWord bytes 4 ≡ marksAt f h)) × (headerWord bytes 5 ≡ proposalsAt f h))
+      × (headerWord bytes 6 ≡ wholeLength f h)) × (h .mode ≡ f .mode)) × (headerWord bytes 6 ≡ length bytes)
 
-pub laid-out-reads : (h : Header) (job : List ℕ) → (laidOut track h job ≡ true) ↔ LaidOut h job
-unfolding laidOut
-laid-out-reads h job =
-    and-reads
-    (and-reads
-    (and-reads
-    (and-reads (and-reads (eqb-reads (headerWord job 3) 32) (eqb-reads (headerWord job 4) (32 + 16 * h .rows))) (eqb-reads (headerWord job 5) (32 + 17 * h .rows)))
-    (eqb-reads (headerWord job 6) (32 + 17 * h .rows + 8 * h .proposals))) (eqb-reads (headerWord job 7) 0))
-    (eqb-reads (headerWord job 6) (length job))
+  pub laid-out-reads : (h : Header) (bytes : List ℕ) → (laidOut f h bytes ≡ true) ↔ LaidOut h bytes
+  unfolding laidOut
+  laid-out-reads h bytes =
+      and-reads
+      (and-reads
+      (and-reads
+      (and-reads (and-reads (eqb-reads (headerWord bytes 3) rowsAt) (eqb-reads (headerWord bytes 4) (marksAt f h))) (eqb-reads (headerWord bytes 5) (proposalsAt f h)))
+      (eqb-reads (headerWord bytes 6) (wholeLength f h))) (eqb-reads (h .mode) (f .mode)))
+      (eqb-reads (headerWord bytes 6) (length bytes))
 
--- answers under P bytes, final marks under N bytes, triangles under 6N words, work under 4N words
-abbrev pub RoomShort : Header → Lent → Type 0
-RoomShort h lent =
-    (((length (lent .answers) < h .proposals) ⊎ (length (lent .finalMarks) < h .rows)) ⊎ (length (lent .triangles) < 6 * h .rows))
-    ⊎ (length (lent .work) < 4 * h .rows)
+  -- answers under P bytes, final marks under N bytes, and for a track triangles under 6N words, work under 4N words
+  abbrev pub RoomShort : Header → Lent → Type 0
+  RoomShort h lent =
+      (((length (lent .answers) < h .proposals) ⊎ (length (lent .finalMarks) < h .rows)) ⊎ (length (lent .triangles) < listRoom f h))
+      ⊎ (length (lent .work) < workRoom f h)
 
-pub room-reads : (h : Header) (lent : Lent) → (roomShort h lent ≡ true) ↔ RoomShort h lent
-unfolding roomShort shortRooms
-room-reads h lent =
-    or-reads
-    (or-reads (or-reads (ltb-reads (length (lent .answers)) (h .proposals)) (ltb-reads (length (lent .finalMarks)) (h .rows)))
-    (ltb-reads (length (lent .triangles)) (6 * h .rows))) (ltb-reads (length (lent .work)) (4 * h .rows))
+  pub room-reads : (h : Header) (lent : Lent) → (roomShort f h lent ≡ true) ↔ RoomShort h lent
+  unfolding roomShort shortRooms
+  room-reads h lent =
+      or-reads
+      (or-reads (or-reads (ltb-reads (length (lent .answers)) (h .proposals)) (ltb-reads (length (lent .finalMarks)) (h .rows)))
+      (ltb-reads (length (lent .triangles)) (listRoom f h))) (ltb-reads (length (lent .work)) (workRoom f h))
 
 -- ---- rows, table and marks
 
@@ -101,9 +103,6 @@ markConditions t idCount marks =
     ∷ []
 
 module _ (t : Table) (idCount : ℕ) where
-  badRow : ℕ → Bool
-  badRow r = not (rising t r && idsBelow t idCount r)
-
   rows-read : (r : ℕ) → (rising t r && idsBelow t idCount r ≡ true) ↔ (Rising t r × IdsBelow t idCount r)
   rows-read r = and-reads (rising-reads t r) (ids-below-reads t idCount r)
 
@@ -111,20 +110,18 @@ module _ (t : Table) (idCount : ℕ) where
   each-row : (p : ℕ → Bool) → lowest (t .rows) (λ r. not (p r)) ≡ none → (r : ℕ) → r < t .rows → p r ≡ true
   each-row p e r l = not-false (p r) (lowest-none (t .rows) (λ r. not (p r)) e r l)
 
-  all-rising : lowest (t .rows) badRow ≡ none → (r : ℕ) → r < t .rows → Rising t r
-  unfolding badRow
+  all-rising : lowest (t .rows) (badRow t idCount) ≡ none → (r : ℕ) → r < t .rows → Rising t r
   all-rising e r l = rows-read r .0 (each-row (λ r. rising t r && idsBelow t idCount r) e r l) .0
 
   -- what the five tests have shown where none matched
-  none-closed : lowest (t .rows) badRow ≡ none → lowest (t .rows) (λ r. ltb 0 r && not (before t (r - 1) r)) ≡ none
+  none-closed : lowest (t .rows) (badRow t idCount) ≡ none → lowest (t .rows) (notAfter t) ≡ none
       → lowest (t .rows) (λ r. not (trianglesShared t r)) ≡ none → lowest (t .rows) (λ r. not (edgesJoined t r)) ≡ none
       → lowest (t .rows) (λ r. not (verticesJoined t r)) ≡ none → Closed t idCount
-  unfolding badRow
   none-closed none5 none6 none7 none8 none9 = record {
     rising = all-rising none5;
     below = λ r l. rows-read r .0 (each-row (λ r. rising t r && idsBelow t idCount r) none5 r l) .1;
     ordered = λ r pos l. before-reads t (r - 1) r .0 (is-true (before t (r - 1) r) (λ f.
-        not-both (and-both (lt-ltb 0 r pos) (ap not f)) (lowest-none (t .rows) (λ r. ltb 0 r && not (before t (r - 1) r)) none6 r l)));
+        not-both (and-both (lt-ltb 0 r pos) (ap not f)) (lowest-none (t .rows) (notAfter t) none6 r l)));
     two = λ r l. triangles-read t r .0 (each-row (trianglesShared t) none7 r l);
     edges = λ r l. edges-read t (all-rising none5) r .0 (each-row (edgesJoined t) none8 r l);
     vertices = λ r l. vertices-read t (all-rising none5) r .0 (each-row (verticesJoined t) none9 r l);
@@ -133,11 +130,11 @@ module _ (t : Table) (idCount : ℕ) where
   -- codes 5 to 9, and what comes after them on a closed table
   table-reads : (tests : List Test) (conditions : List (ℕ → Type 0)) → (Closed t idCount → Reads tests conditions)
       → Reads (tableTests t idCount ++ tests) (tableConditions t idCount ++ conditions)
-  unfolding tableTests badRow
+  unfolding tableTests
   table-reads tests conditions rest = (
-    lowest-first (t .rows) badRow (λ r. (Rising t r × IdsBelow t idCount r) → ⊥) (λ r _. not-reads (rows-read r)),
+    lowest-first (t .rows) (badRow t idCount) (λ r. (Rising t r × IdsBelow t idCount r) → ⊥) (λ r _. not-reads (rows-read r)),
     λ none5. (
-      lowest-first (t .rows) (λ r. ltb 0 r && not (before t (r - 1) r)) (λ r. (0 < r) × (Before t (r - 1) r → ⊥))
+      lowest-first (t .rows) (notAfter t) (λ r. (0 < r) × (Before t (r - 1) r → ⊥))
           (λ r _. and-reads (ltb-reads 0 r) (not-reads (before-reads t (r - 1) r))),
       λ none6. (
         lowest-first (t .rows) (λ r. not (trianglesShared t r)) (λ r. TrianglesShared t r → ⊥) (λ r _. not-reads (triangles-read t r)),
@@ -154,7 +151,7 @@ module _ (t : Table) (idCount : ℕ) where
 
   -- no code from 5 to 9 exactly if the table is closed
   pub closed-reads : (code : ℕ) → 0 < code → (firstMatch code (tableTests t idCount) .code ≡ 0) ↔ Closed t idCount
-  unfolding tableTests badRow
+  unfolding tableTests
   closed-reads code pos = (forth, λ c. none-reads code pos (tableTests t idCount) (tableConditions t idCount) (table-reads [] [] (λ _. tt)) .1 (broken c))
     where
       forth : firstMatch code (tableTests t idCount) .code ≡ 0 → Closed t idCount
@@ -200,159 +197,161 @@ module _ (t : Table) (idCount : ℕ) where
 
 -- ---- the twelve codes
 
--- The rows of document 01's table of codes. Those with place 0 say so.
-abbrev pub jobConditions : List ℕ → Lent → List (ℕ → Type 0)
-jobConditions job lent =
-    -- 1: under 32 bytes
-    (λ place. (length job < 32) × (place ≡ 0))
-    -- 2: V, N or P outside its limits
-    ∷ (λ place. (WithinLimits (headerOf job) → ⊥) × (place ≡ 0))
-    -- 3: a word 3 to 7 differs from the table, or word 6 from the length lent
-    ∷ (λ place. (LaidOut (headerOf job) job → ⊥) × (place ≡ 0))
-    -- 4: lent room short
-    ∷ (λ place. RoomShort (headerOf job) lent × (place ≡ 0))
-    -- 5 to 9, 10 to 12
-    ∷ (tableConditions (tableOfJob track job) (headerOf job .ids) ++ markConditions (tableOfJob track job) (headerOf job .ids) (marksOfJob track job))
+-- codes 5 to 9, and 10 to 12
+abbrev pub sectionConditions : Job → List (ℕ → Type 0)
+sectionConditions job = tableConditions (job .table) (job .ids) ++ markConditions (job .table) (job .ids) (job .marks)
 
-module _ (job : List ℕ) (lent : Lent) where
-  four : tableOfJob track job .corners ≡ 4
-  unfolding tableOfJob rowsTable tableOf
-  four = refl
+module _ (f : Form) (bytes : List ℕ) (lent : Lent) where
+  -- The rows of document 01's table of codes. Those with place 0 say so.
+  abbrev pub jobConditions : List (ℕ → Type 0)
+  jobConditions =
+      -- 1: under 32 bytes
+      (λ place. (length bytes < rowsAt) × (place ≡ 0))
+      -- 2: V, N or P outside its limits
+      ∷ (λ place. (WithinLimits f (headerOf bytes) → ⊥) × (place ≡ 0))
+      -- 3: a word 3 to 7 differs from the table, or word 6 from the length lent
+      ∷ (λ place. (LaidOut f (headerOf bytes) bytes → ⊥) × (place ≡ 0))
+      -- 4: lent room short
+      ∷ (λ place. RoomShort f (headerOf bytes) lent × (place ≡ 0))
+      ∷ sectionConditions (jobOf f bytes)
 
-  codes-read : Reads (jobTests track job lent) (jobConditions job lent)
+  codes-read : f .corners ≡ 4 → Reads (jobTests f bytes lent) jobConditions
   unfolding jobTests layoutTests roomTests
-  codes-read = (
-    given-reads (ltb-reads (length job) 32),
-    λ _. (
-      given-reads (not-reads (limits-read (headerOf job))),
-      λ _. (
-        given-reads (not-reads (laid-out-reads (headerOf job) job)),
+  codes-read four =
+      let job = jobOf f bytes in (
+        given-reads (ltb-reads (length bytes) rowsAt),
         λ _. (
-          given-reads (room-reads (headerOf job) lent),
-          λ _. table-reads (tableOfJob track job) (headerOf job .ids) (markTests (tableOfJob track job) (headerOf job .ids) (marksOfJob track job))
-              (markConditions (tableOfJob track job) (headerOf job .ids) (marksOfJob track job)) (λ closed. marks-read (tableOfJob track job) (headerOf job .ids) four (marksOfJob track job) closed),
+          given-reads (not-reads (limits-read f (headerOf bytes))),
+          λ _. (
+            given-reads (not-reads (laid-out-reads f (headerOf bytes) bytes)),
+            λ _. (
+              given-reads (room-reads f (headerOf bytes) lent),
+              λ _. table-reads (job .table) (job .ids) (markTests (job .table) (job .ids) (job .marks)) (markConditions (job .table) (job .ids) (job .marks))
+                  (marks-read (job .table) (job .ids) (job-corners f bytes ∙ four) (job .marks)),
+            ),
+          ),
         ),
-      ),
-    ),
-  )
+      )
 
   -- ---- the run
 
-  pub run-accepted : verdictOn track job lent .code ≡ 0
-      → run track job lent ≡ accepted (tableOfJob track job) (marksOfJob track job) (proposalsOfJob track job) lent
+  pub run-accepted : verdictOn f bytes lent .code ≡ 0 → run f bytes lent ≡ accepted (jobOf f bytes) lent
   unfolding run
   run-accepted e = rw e
 
-  pub run-refused : verdictOn track job lent .code ≢ 0 → run track job lent ≡ refused (headerOf job) (verdictOn track job lent) lent
+  pub run-refused : verdictOn f bytes lent .code ≢ 0 → run f bytes lent ≡ refused f (headerOf bytes) (verdictOn f bytes lent) lent
   unfolding run
-  run-refused ne = rw (ne-eqb (verdictOn track job lent .code) 0 ne)
+  run-refused ne = rw (ne-eqb (verdictOn f bytes lent .code) 0 ne)
 
   -- its code and place are the verdict's
-  pub run-code : run track job lent .code ≡ verdictOn track job lent .code
+  pub run-code : run f bytes lent .code ≡ verdictOn f bytes lent .code
   unfolding accepted refused
   run-code =
       ⊎-elim (λ e. ap (λ (r : Result). r .code) (run-accepted e) ∙ sym e) (λ ne. ap (λ (r : Result). r .code) (run-refused ne))
-      (same-or-not (verdictOn track job lent .code) 0)
+      (same-or-not (verdictOn f bytes lent .code) 0)
 
-  pub run-place : run track job lent .place ≡ verdictOn track job lent .place
+  pub run-place : run f bytes lent .place ≡ verdictOn f bytes lent .place
   unfolding accepted refused verdictOn
   run-place =
-      ⊎-elim (λ e. ap (λ (r : Result). r .place) (run-accepted e) ∙ sym (match-none 1 (zero-lt-suc 0) (jobTests track job lent) e))
-      (λ ne. ap (λ (r : Result). r .place) (run-refused ne)) (same-or-not (verdictOn track job lent .code) 0)
+      ⊎-elim (λ e. ap (λ (r : Result). r .place) (run-accepted e) ∙ sym (match-none 1 (zero-lt-suc 0) (jobTests f bytes lent) e))
+      (λ ne. ap (λ (r : Result). r .place) (run-refused ne)) (same-or-not (verdictOn f bytes lent .code) 0)
 
   -- a code from 0 to 12
-  pub run-code-below : run track job lent .code < 13
+  pub run-code-below : run f bytes lent .code ≤ codes
   unfolding verdictOn jobTests layoutTests roomTests tableTests markTests
-  run-code-below = rw run-code (match-below 1 (zero-lt-suc 0) (jobTests track job lent))
+  run-code-below = rw run-code (omega (arith, match-below 1 (zero-lt-suc 0) (jobTests f bytes lent)))
 
-  -- code 1 + i is given at a place exactly if condition i holds there and none before it holds anywhere
-  pub code-exactly : (i place : ℕ) → i < 12
-      → ((run track job lent .code ≡ 1 + i) × (run track job lent .place ≡ place)) ↔ FirstOf (jobConditions job lent) i place
-  unfolding verdictOn jobTests layoutTests roomTests tableTests markTests
-  code-exactly i place l =
-      let (forth, back) = first-reads 1 (zero-lt-suc 0) (jobTests track job lent) (jobConditions job lent) codes-read i place l in (
-        λ (e, f). forth (verdict-is (sym run-code ∙ e) (sym run-place ∙ f)),
-        λ x. (run-code ∙ ap (λ (v : Verdict). v .code) (back x), run-place ∙ ap (λ (v : Verdict). v .place) (back x)),
-      )
-    where
-      verdict-is : {v : Verdict} {code place : ℕ} → v .code ≡ code → v .place ≡ place → v ≡ record { code = code; place = place }
-      verdict-is e f = λ k. record { code = e k; place = f k }
+  module _ (four : f .corners ≡ 4) where
+    -- code 1 + i is given at a place exactly if condition i holds there and none before it holds anywhere
+    pub code-exactly : (i place : ℕ) → i < codes → ((run f bytes lent .code ≡ 1 + i) × (run f bytes lent .place ≡ place)) ↔ FirstOf jobConditions i place
+    unfolding verdictOn jobTests layoutTests roomTests tableTests markTests
+    code-exactly i place l =
+        let (forth, back) = first-reads 1 (zero-lt-suc 0) (jobTests f bytes lent) jobConditions (codes-read four) i place l in (
+          λ (e, g). forth (verdict-is (sym run-code ∙ e) (sym run-place ∙ g)),
+          λ x. (run-code ∙ ap (λ (v : Verdict). v .code) (back x), run-place ∙ ap (λ (v : Verdict). v .place) (back x)),
+        )
+      where
+        verdict-is : {v : Verdict} {code place : ℕ} → v .code ≡ code → v .place ≡ place → v ≡ record { code = code; place = place }
+        verdict-is e g = λ k. record { code = e k; place = g k }
 
-  -- code 0 exactly if no condition holds
-  pub accepted-exactly : (run track job lent .code ≡ 0) ↔ ((i place : ℕ) → conditionAt (jobConditions job lent) i place → ⊥)
-  unfolding verdictOn
-  accepted-exactly =
-      let (forth, back) = none-reads 1 (zero-lt-suc 0) (jobTests track job lent) (jobConditions job lent) codes-read in
-      (λ e. forth (sym run-code ∙ e), λ off. run-code ∙ back off)
+    -- code 0 exactly if no condition holds
+    pub accepted-exactly : (run f bytes lent .code ≡ 0) ↔ ((i place : ℕ) → conditionAt jobConditions i place → ⊥)
+    unfolding verdictOn
+    accepted-exactly =
+        let (forth, back) = none-reads 1 (zero-lt-suc 0) (jobTests f bytes lent) jobConditions (codes-read four) in
+        (λ e. forth (sym run-code ∙ e), λ off. run-code ∙ back off)
 
   -- ---- what an accepted job keeps
 
-  module _ (ran : run track job lent .code ≡ 0) where
-    layout-passed : firstMatch 1 (layoutTests track job) .code ≡ 0
+  module _ (ran : run f bytes lent .code ≡ 0) where
+    layout-passed : firstMatch 1 (layoutTests f bytes) .code ≡ 0
     unfolding verdictOn jobTests
-    layout-passed = match-parts 1 (zero-lt-suc 0) (layoutTests track job) _ (sym run-code ∙ ran) .0
+    layout-passed = match-parts 1 (zero-lt-suc 0) (layoutTests f bytes) _ (sym run-code ∙ ran) .0
 
-    later-passed : firstMatch 4 (roomTests (headerOf job) lent ++ (tableTests (tableOfJob track job) (headerOf job .ids) ++ markTests (tableOfJob track job) (headerOf job .ids) (marksOfJob track job))) .code ≡ 0
+    later-passed : firstMatch 4 (roomTests f (headerOf bytes) lent ++ sectionTests (jobOf f bytes)) .code ≡ 0
     unfolding verdictOn jobTests layoutTests
-    later-passed = match-parts 1 (zero-lt-suc 0) (layoutTests track job) _ (sym run-code ∙ ran) .1
+    later-passed = match-parts 1 (zero-lt-suc 0) (layoutTests f bytes) _ (sym run-code ∙ ran) .1
 
-    tables-passed : firstMatch 5 (tableTests (tableOfJob track job) (headerOf job .ids) ++ markTests (tableOfJob track job) (headerOf job .ids) (marksOfJob track job)) .code ≡ 0
+    sections-passed : firstMatch 5 (sectionTests (jobOf f bytes)) .code ≡ 0
     unfolding roomTests
-    tables-passed = match-parts 4 (zero-lt-suc 3) (roomTests (headerOf job) lent) _ later-passed .1
+    sections-passed = match-parts 4 (zero-lt-suc 3) (roomTests f (headerOf bytes) lent) _ later-passed .1
 
-    pub accepted-closed : Closed (tableOfJob track job) (headerOf job .ids)
-    accepted-closed = closed-reads (tableOfJob track job) (headerOf job .ids) 5 (zero-lt-suc 4) .0 (match-parts 5 (zero-lt-suc 4) (tableTests (tableOfJob track job) (headerOf job .ids)) _ tables-passed .0)
+    pub accepted-closed : Closed (jobOf f bytes .table) (jobOf f bytes .ids)
+    accepted-closed =
+        closed-reads (jobOf f bytes .table) (jobOf f bytes .ids) 5 (zero-lt-suc 4) .0 (match-parts 5 (zero-lt-suc 4) (tableTests (jobOf f bytes .table) (jobOf f bytes .ids)) _ sections-passed .0)
 
-    marks-passed : firstMatch 10 (markTests (tableOfJob track job) (headerOf job .ids) (marksOfJob track job)) .code ≡ 0
+    marks-passed : firstMatch 10 (markTests (jobOf f bytes .table) (jobOf f bytes .ids) (jobOf f bytes .marks)) .code ≡ 0
     unfolding tableTests
-    marks-passed = match-parts 5 (zero-lt-suc 4) (tableTests (tableOfJob track job) (headerOf job .ids)) _ tables-passed .1
+    marks-passed = match-parts 5 (zero-lt-suc 4) (tableTests (jobOf f bytes .table) (jobOf f bytes .ids)) _ sections-passed .1
 
     -- each mark is 0 or 1
-    pub accepted-marks : (r : ℕ) → r < tableOfJob track job .rows → (getD (marksOfJob track job) r 0 ≡ 0) ⊎ (getD (marksOfJob track job) r 0 ≡ 1)
+    pub accepted-marks : (r : ℕ) → r < jobOf f bytes .table .rows → (getD (jobOf f bytes .marks) r 0 ≡ 0) ⊎ (getD (jobOf f bytes .marks) r 0 ≡ 1)
     unfolding markTests
     accepted-marks r l =
+        let marks = jobOf f bytes .marks in
         let (n10, _) = match-zero 10 (zero-lt-suc 9) _ _ marks-passed in
-        or-reads (eqb-reads (getD (marksOfJob track job) r 0) 0) (eqb-reads (getD (marksOfJob track job) r 0) 1) .0
-        (each-row (tableOfJob track job) (headerOf job .ids) (λ r. eqb (getD (marksOfJob track job) r 0) 0 || eqb (getD (marksOfJob track job) r 0) 1) n10 r l)
+        or-reads (eqb-reads (getD marks r 0) 0) (eqb-reads (getD marks r 0) 1) .0
+        (each-row (jobOf f bytes .table) (jobOf f bytes .ids) (λ r. eqb (getD marks r 0) 0 || eqb (getD marks r 0) 1) n10 r l)
 
     -- the starting skin is clean
-    pub accepted-clean : clean (tableOfJob track job) (insideIn (marksOfJob track job)) (headerOf job .ids) ≡ true
+    pub accepted-clean : cleanWith (jobOf f bytes) (jobOf f bytes .marks) ≡ true
     unfolding markTests clean
     accepted-clean =
         let (_, e11) = match-zero 10 (zero-lt-suc 9) _ _ marks-passed in
         let (_, e12) = match-zero 11 (zero-lt-suc 10) _ _ e11 in
         let (n12, _) = match-zero 12 (zero-lt-suc 11) _ _ e12 in
-        ap not (none-any (headerOf job .ids) (ringless (tableOfJob track job) (insideIn (marksOfJob track job)) (headerOf job .ids))
-        (lowest-none (headerOf job .ids) (ringless (tableOfJob track job) (insideIn (marksOfJob track job)) (headerOf job .ids)) n12))
+        let broken = ringless (jobOf f bytes .table) (insideIn (jobOf f bytes .marks)) (jobOf f bytes .ids) in
+        ap not (none-any (jobOf f bytes .ids) broken (lowest-none (jobOf f bytes .ids) broken n12))
 
     -- the header is within its limits and laid out as it says
-    pub accepted-header : WithinLimits (headerOf job) × LaidOut (headerOf job) job
+    pub accepted-header : WithinLimits f (headerOf bytes) × LaidOut f (headerOf bytes) bytes
     unfolding layoutTests
     accepted-header =
+        let h = headerOf bytes in
         let (_, e2) = match-zero 1 (zero-lt-suc 0) _ _ layout-passed in
         let (n2, e3) = match-zero 2 (zero-lt-suc 1) _ _ e2 in
         let (n3, _) = match-zero 3 (zero-lt-suc 2) _ _ e3 in (
-          limits-read (headerOf job) .0 (not-false (withinLimits (headerOf job)) (given-none (not (withinLimits (headerOf job))) n2)),
-          laid-out-reads (headerOf job) job .0 (not-false (laidOut track (headerOf job) job) (given-none (not (laidOut track (headerOf job) job)) n3)),
+          limits-read f h .0 (not-false (withinLimits f h) (given-none (not (withinLimits f h)) n2)),
+          laid-out-reads f h bytes .0 (not-false (laidOut f h bytes) (given-none (not (laidOut f h bytes)) n3)),
         )
 
     -- one mark for each row
-    pub accepted-length : length (marksOfJob track job) ≡ tableOfJob track job .rows
-    unfolding marksOfJob tableOfJob rowsTable tableOf
+    pub accepted-length : length (jobOf f bytes .marks) ≡ jobOf f bytes .table .rows
+    unfolding jobOf rowsTable tableOf
     accepted-length =
+        let h = headerOf bytes in
         let (_, laid) = accepted-header in
-        length-take-le (headerOf job .rows) (drop (32 + 16 * headerOf job .rows) job)
-        (rw (length-drop (32 + 16 * headerOf job .rows) job) (omega (arith, laid .1, laid .0 .0 .1)))
+        length-take-le (h .rows) (drop (marksAt f h) bytes) (rw (length-drop (marksAt f h) bytes) (omega (arith, laid .1, laid .0 .0 .1)))
 
   -- ---- what a refusal leaves
 
   -- zero for both counts, and nothing changed in answers, final marks and triangles
-  pub refusal-keeps : run track job lent .code ≢ 0
-      → (run track job lent .taken ≡ 0) × (run track job lent .triangles ≡ 0) × (run track job lent .left .answers ≡ lent .answers)
-      × (run track job lent .left .finalMarks ≡ lent .finalMarks) × (run track job lent .left .triangles ≡ lent .triangles)
+  pub refusal-keeps : run f bytes lent .code ≢ 0
+      → (run f bytes lent .taken ≡ 0) × (run f bytes lent .triangles ≡ 0) × (run f bytes lent .left .answers ≡ lent .answers)
+      × (run f bytes lent .left .finalMarks ≡ lent .finalMarks) × (run f bytes lent .left .triangles ≡ lent .triangles)
   unfolding refused
   refusal-keeps ne =
-      let e = run-refused (λ (z : verdictOn track job lent .code ≡ 0). ne (run-code ∙ z)) in (
+      let e = run-refused (λ (z : verdictOn f bytes lent .code ≡ 0). ne (run-code ∙ z)) in (
         ap (λ (r : Result). r .taken) e,
         ap (λ (r : Result). r .triangles) e,
         ap (λ (r : Result). r .left .answers) e,
@@ -361,15 +360,15 @@ module _ (job : List ℕ) (lent : Lent) where
       )
 
   -- codes 1 to 4 don't touch work
-  pub early-refusal : run track job lent .code ≢ 0 → run track job lent .code ≤ 4 → run track job lent .left .work ≡ lent .work
+  pub early-refusal : run f bytes lent .code ≢ 0 → run f bytes lent .code ≤ 4 → run f bytes lent .left .work ≡ lent .work
   unfolding refused
   early-refusal ne l =
-      ap (λ (r : Result). r .left .work) (run-refused (λ (z : verdictOn track job lent .code ≡ 0). ne (run-code ∙ z)))
-      ∙ rw (le-leb (verdictOn track job lent .code) 4 (rw run-code at l))
+      ap (λ (r : Result). r .left .work) (run-refused (λ (z : verdictOn f bytes lent .code ≡ 0). ne (run-code ∙ z)))
+      ∙ rw (le-leb (verdictOn f bytes lent .code) 4 (rw run-code at l))
 
-  -- codes 5 to 12 leave zero in its first 4N words and the rest unchanged
-  pub late-refusal : 5 ≤ run track job lent .code → run track job lent .left .work ≡ replicate (4 * headerOf job .rows) 0 ++ drop (4 * headerOf job .rows) (lent .work)
+  -- codes 5 to 12 leave zero in its front, for a track 4N words, and the rest unchanged
+  pub late-refusal : 5 ≤ run f bytes lent .code → run f bytes lent .left .work ≡ replicate (workRoom f (headerOf bytes)) 0 ++ drop (workRoom f (headerOf bytes)) (lent .work)
   unfolding refused written
   late-refusal l =
-      ap (λ (r : Result). r .left .work) (run-refused (λ (z : verdictOn track job lent .code ≡ 0). omega (arith, run-code)))
-      ∙ rw (lt-leb (verdictOn track job lent .code) 4 (rw run-code at l), length-replicate {A = ℕ} (4 * headerOf job .rows) 0)
+      ap (λ (r : Result). r .left .work) (run-refused (λ (z : verdictOn f bytes lent .code ≡ 0). omega (arith, run-code)))
+      ∙ rw (lt-leb (verdictOn f bytes lent .code) 4 (rw run-code at l), length-replicate {A = ℕ} (workRoom f (headerOf bytes)) 0)

@@ -4,7 +4,8 @@ use mathlib.Core.Path.{_≡_, refl}
 use mathlib.Core.List.{List, [], _∷_, _++_, map}
 use lib.ListN.{take, drop, replicate}
 use Rattle.rules.specs.Job.{Lent}
-use Rattle.rules.specs.Worked.{words, lend, done, Worked, ran, known, accepts, refuses, keeps, row, three, add, remove, proposal, tableA, tableC, tableD, marked}
+use Rattle.rules.specs.Words.{words}
+use Rattle.rules.specs.Worked.{lend, done, Worked, ran, known, accepts, refuses, keeps, row, three, add, remove, proposal, tableA, tableC, tableD, marked}
 use Rattle.rules.specs.Worked.Document.{jobA}
 
 -- ---- jobs that catch a wrong meaning which passes all of document 01's own

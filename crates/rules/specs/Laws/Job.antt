@@ -1,0 +1,30 @@
+-- Laws of a job: what is in it by its form and its header.
+use mathlib.Core.Path.{_≡_, refl, _∙_}
+use mathlib.Core.List.{List}
+use Prim.Native.Nat.{ℕ}
+use lib.ListN.{length}
+use Rattle.rules.specs.Table.{tableOf}
+use Rattle.rules.specs.Job.{Form, headerOf, rowsTable, jobOf, answersOf}
+use Rattle.rules.specs.Laws.Lists.{tabulate-length}
+use Rattle.rules.specs.Laws.Proposals.{answers-length}
+
+module _ (f : Form) (bytes : List ℕ) where
+  pub job-ids : jobOf f bytes .ids ≡ headerOf bytes .ids
+  unfolding jobOf
+  job-ids = refl
+
+  pub job-corners : jobOf f bytes .table .corners ≡ f .corners
+  unfolding jobOf rowsTable tableOf
+  job-corners = refl
+
+  pub job-rows : jobOf f bytes .table .rows ≡ headerOf bytes .rows
+  unfolding jobOf rowsTable tableOf
+  job-rows = refl
+
+  pub job-proposals : length (jobOf f bytes .proposals) ≡ headerOf bytes .proposals
+  unfolding jobOf
+  job-proposals = tabulate-length (headerOf bytes .proposals) _
+
+  -- one answer for each proposal
+  pub job-answers : length (answersOf (jobOf f bytes)) ≡ headerOf bytes .proposals
+  job-answers = answers-length (jobOf f bytes .table) (jobOf f bytes .marks) (jobOf f bytes .proposals) ∙ job-proposals
