@@ -93,9 +93,9 @@ module _ (bytes : List ℕ) (before : Lent) {o : Outcome} {after : Lent} (ran : 
   listed-exactly = skin-listed (job .table) inside
 
   pub between-sides : (r c : ℕ) → r < job .table .rows → c < job .table .corners
-      → (onSkin (job .table) inside r c ≡ true) ↔ BetweenSides (job .table) inside job-closed r c
-  between-sides = skin-between-sides (job .table) inside job-closed
+      → (onSkin (job .table) inside r c ≡ true) ↔ BetweenSides (job .table) inside (job-closed .paired) r c
+  between-sides = skin-between-sides (job .table) inside (job-closed .paired)
 
   -- each once
   pub listed-once : Distinct (skinWith job (finalOf job))
-  listed-once = skin-once (job .table) inside job-closed (job-corners track bytes)
+  listed-once = skin-once (job .table) inside (job-closed .paired) (job-corners track bytes)

@@ -5,10 +5,15 @@ use mathlib.Core.Path.{_≡_, refl, sym, ap, _∙_}
 use mathlib.Core.Bool.{cond}
 use mathlib.Core.List.{List}
 use Prim.Native.Nat.{ℕ}
+use mathlib.Core.Option.{Option}
+use native.Mathlib.Omega.{arith}
 use lib.Dec.{eqb}
 use Rattle.rules.specs.First.{Verdict, firstMatch}
-use Rattle.rules.specs.Table.{Table}
+use Rattle.rules.specs.Table.{Table, neighbourList}
 use Rattle.rules.specs.Job.{Lent, Result, written, tableTests, markTests}
+use Rattle.values.specs.declared.Found.{Found}
+use Rattle.values.specs.declared.Found.the-variants.{At, Nowhere}
+use Rattle.values.specs.Search.{placeOf}
 use Rattle.table.specs.declared.Broken.{Broken}
 use Rattle.table.specs.declared.Broken.the-variants as broken
 use Rattle.table.specs.Closed as closed
@@ -28,6 +33,14 @@ run-settled job before e f =
     let both = settled e f in
     (λ i. record { code = both i .code; place = both i .place; taken = both i .taken; triangles = both i .triangles }, ap (λ (r : Result). r .left) both)
 
+-- ---- a search, as `rings::ringless_vertex`
+
+pub found-settled : (a b : Found) {place : Option ℕ} → placeOf a ≡ place → placeOf b ≡ place → a ≡ b
+found-settled (At r) (At s) e f = cc
+found-settled (At r) Nowhere e f = let no : _≡_ {A = ℕ} 0 1 = cc in absurd (omega arith)
+found-settled Nowhere (At s) e f = let no : _≡_ {A = ℕ} 0 1 = cc in absurd (omega arith)
+found-settled Nowhere Nowhere e f = refl
+
 -- ---- `table::check`
 
 -- the case that a number and a place stand for
@@ -46,9 +59,9 @@ broken-back (broken.Edge r) = refl
 broken-back (broken.Vertex r) = refl
 
 pub check-settled : (t : Table) (ids : ℕ) (work : List ℕ) (b c : Broken) {left other : List ℕ}
-    → (closed.verdictOf b ≡ firstMatch 5 (tableTests t ids)) × (left ≡ written (closed.frontOf t b) work)
-    → (closed.verdictOf c ≡ firstMatch 5 (tableTests t ids)) × (other ≡ written (closed.frontOf t c) work) → (b ≡ c) × (left ≡ other)
-check-settled t ids work b c (eb, el) (ec, eo) = (same, el ∙ ap (λ (x : Broken). written (closed.frontOf t x) work) same ∙ sym eo)
+    → (closed.verdictOf b ≡ firstMatch 5 (tableTests t ids)) × (left ≡ closed.leftOf b (written (neighbourList t) work))
+    → (closed.verdictOf c ≡ firstMatch 5 (tableTests t ids)) × (other ≡ closed.leftOf c (written (neighbourList t) work)) → (b ≡ c) × (left ≡ other)
+check-settled t ids work b c (eb, el) (ec, eo) = (same, el ∙ ap (λ (x : Broken). closed.leftOf x (written (neighbourList t) work)) same ∙ sym eo)
   where
     same : b ≡ c
     same = sym (broken-back b) ∙ ap brokenAt (settled eb ec) ∙ broken-back c

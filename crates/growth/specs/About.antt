@@ -10,7 +10,7 @@ use Rattle.rules.specs.Cases.{otherSide}
 use Rattle.rules.specs.Laws.Truth.{not-both, is-false, and-first, and-second, and-both, or-either, or-no-first, or-no-second, same-or-not}
 use Rattle.rules.specs.Laws.Below.{none-any}
 use Rattle.rules.specs.Reading.Rows.{one-corner}
-use Rattle.rules.specs.Reading.Closed.{Closed}
+use Rattle.rules.specs.Reading.Closed.{Paired, Closed}
 use Rattle.rules.specs.Reading.Moves.{At, both, both-reads, leaves-reads}
 use Rattle.round.specs.Edge.{Near, Turning, Turned, near-at, turn-whole}
 use Rattle.growth.specs.Free.{touches, bothFree, touched}
@@ -51,7 +51,7 @@ module _ {t : Table} {idCount : ℕ} (closed : Closed t idCount) (four : t .corn
     unfolding other
     start-touched on =
         ⊎-elim (λ (h : p ≡ true). edge-touched row (s .near .0) (sym ep ∙ h))
-        (λ (h : q ≡ true). edge-touched last (near-at closed four (s .edge) row last (s .near)) (sym eq ∙ h)) (or-either p q on)
+        (λ (h : q ≡ true). edge-touched last (near-at (closed .paired) four (s .edge) row last (s .near)) (sym eq ∙ h)) (or-either p q on)
 
     -- where the walk came round, no row of the other side holds the edge
     pub about-decides : p || q ≡ false → {at y : ℕ} → Turned t inside a b last row at y → eqb y last ≡ bothFree t (otherSide adding inside) a b
@@ -64,7 +64,7 @@ module _ {t : Table} {idCount : ℕ} (closed : Closed t idCount) (four : t .corn
         all-off : y ≡ last → (z : ℕ) → At t a b z → other z ≡ false
         all-off home z at-z =
             ⊎-elim (λ (e : z ≡ last). ap other e ∙ sym eq ∙ or-no-second p q off)
-            (λ ne. same-sided adding inside row z (turn-whole closed four (s .edge) inside (s .near) (subst (Turning t inside a b last row (w .k) at) home (w .going)) z at-z ne) ∙ row-off)
+            (λ ne. same-sided adding inside row z (turn-whole (closed .paired) four (s .edge) inside (s .near) closed (subst (Turning t inside a b last row (w .k) at) home (w .going)) z at-z ne) ∙ row-off)
             (same-or-not z last)
 
         go : (y ≡ last) ⊎ (y ≢ last) → eqb y last ≡ bothFree t other a b
@@ -73,13 +73,13 @@ module _ {t : Table} {idCount : ℕ} (closed : Closed t idCount) (four : t .corn
             not-both (and-first (other z) (both t a b z) on) (all-off home z (l, and-second (other z) (both t a b z) on))))))
         go (inr ne) =
             ne-eqb y last ne ∙ ⊎-elim (λ (e : y ≡ last). absurd (ne e))
-            (λ d. edge-touched y (near-at closed four (s .edge) at y (w .going .next .near)) (crossed adding inside row y d row-off)) (w .stops)
+            (λ d. edge-touched y (near-at (closed .paired) four (s .edge) at y (w .going .next .near)) (crossed adding inside row y d row-off)) (w .stops)
 
 -- ---- an edge of a row, by three of its corners
 
-module _ {t : Table} {idCount : ℕ} (closed : Closed t idCount) (four : t .corners ≡ 4) (r : ℕ) (l : r < t .rows) where
+module _ {t : Table} {idCount : ℕ} (paired : Paired t idCount) (four : t .corners ≡ 4) (r : ℕ) (l : r < t .rows) where
   ids-differ : (i j : ℕ) → i < 4 → j < 4 → i ≢ j → t .id r i ≢ t .id r j
-  ids-differ i j li lj ne e = ne (one-corner t (closed .rising r l) i j (rw four li) (rw four lj) e)
+  ids-differ i j li lj ne e = ne (one-corner t (paired .rising r l) i j (rw four li) (rw four lj) e)
 
   pub edge-start : (i j k : ℕ) → i < 4 → j < 4 → k < 4 → (i ≢ j) × (k ≢ i) × (k ≢ j)
       → Beside t (t .id r i) (t .id r j) (across t r k) r

@@ -10,7 +10,8 @@ use Rattle.rules.specs.Below.{bit, sum, count, pick}
 use Rattle.rules.specs.Laws.Truth.{true-or-false}
 use Rattle.rules.specs.Laws.Count.{count-more, count-not}
 use Rattle.rules.specs.Laws.Lists.{Among, in-pick, pick-length}
-use Rattle.skin.specs.Ground.{Ground, neighbour-below, neighbour-listed}
+use Rattle.table.specs.Ground.{Ground, neighbour-below, neighbour-listed}
+use Rattle.table.specs.Rows.{rowsIn}
 
 -- its mark and those across can be asked
 pub record Surrounded (neighbours marks : List ℕ) (r : ℕ) : Type 0 where
@@ -18,7 +19,7 @@ pub record Surrounded (neighbours marks : List ℕ) (r : ℕ) : Type 0 where
   pub listed : (c : ℕ) → c < 4 → 4 * r + c < length neighbours
   pub across : (c : ℕ) → c < 4 → getD neighbours (4 * r + c) 0 < length marks
 
-pub ground-surrounds : {rows neighbours : List ℕ} (marks : List ℕ) (r : ℕ) → Ground rows neighbours → length rows / 16 ≤ length marks → r < length rows / 16 → Surrounded neighbours marks r
+pub ground-surrounds : {rows neighbours : List ℕ} {ids : ℕ} (marks : List ℕ) (r : ℕ) → Ground rows neighbours ids → rowsIn rows ≤ length marks → r < rowsIn rows → Surrounded neighbours marks r
 ground-surrounds marks r ground m l = record {
   here = omega arith;
   listed = λ c k. neighbour-listed ground r c l k;

@@ -12,12 +12,13 @@ use Rattle.rules.specs.Cases.{otherSide, free, passes}
 use Rattle.rules.specs.Proposals.{insideIn}
 use Rattle.rules.specs.Laws.Count.{count-same}
 use Rattle.rules.specs.Laws.Lists.{pick-same}
-use Rattle.table.specs.Rows.{tableIn}
-use Rattle.skin.specs.Ground.{Ground, between, between-skin}
+use Rattle.table.specs.Rows.{tableIn, rowsIn}
+use Rattle.table.specs.Ground.{Ground}
+use Rattle.skin.specs.Between.{between, between-skin}
 use Rattle.growth.specs.Free.{vertexFree}
 use Rattle.growth.specs.Around.{Counted, counted-one}
 
-module _ {rows neighbours : List ℕ} (ground : Ground rows neighbours) (marks : List ℕ) (adding : Bool) (r : ℕ) (l : r < length rows / 16)
+module _ {rows neighbours : List ℕ} {ids : ℕ} (ground : Ground rows neighbours ids) (marks : List ℕ) (adding : Bool) (r : ℕ) (l : r < rowsIn rows)
     {f last : ℕ} (c : Counted (between neighbours marks r) 4 f last) where
   f-is : count 4 (onSkin (tableIn rows) (insideIn marks) r) ≡ f
   f-is = sym (c .counted ∙ count-same 4 (between neighbours marks r) (onSkin (tableIn rows) (insideIn marks) r) (λ k m. between-skin ground r k l m marks))

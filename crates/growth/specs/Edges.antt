@@ -2,14 +2,15 @@
 use mathlib.Core.Path.{_≡_, refl, sym, ap, _∙_}
 use mathlib.Core.Logic.{⊎-elim, _↔_, _≢_}
 use mathlib.Core.Bool.{Bool, true, false, not, _&&_, _||_}
-use mathlib.Core.List.{List, [], _∷_, flatten}
+use mathlib.Core.List.{List, [], _∷_, map, flatten}
 use Prim.Native.Nat.{ℕ, zero, suc, _+_, _*_, _<_}
 use native.Mathlib.Omega.{arith}
 use lib.Dec.{eqb, ltb, lit<}
 use lib.ListN.{getD}
 use borrow.Author.Tests.{eqb-true, eq-eqb, ltb-true, not-true}
-use Rattle.rules.specs.Below.{any, all, bit, sum, count, gather, only, pick}
-use Rattle.rules.specs.Shape.{edgeTable, oppositeTable}
+use Rattle.rules.specs.Below.{any, all, bit, sum, count, gather, tabulate, only, pick}
+use Rattle.rules.specs.Shape.{triangleTable, edgeTable, oppositeTable, vertices}
+use Rattle.table.specs.Faces.{edgesAt, faceCorners, cornerOf}
 use Rattle.rules.specs.Laws.Truth.{not-both, and-first, and-second, or-either, or-neither, same-or-not, not-reads, and-reads, eqb-reads}
 use Rattle.rules.specs.Laws.Below.{any-more, any-same, all-each}
 use Rattle.rules.specs.Laws.Count.{count-same}
@@ -21,6 +22,10 @@ edgeCorner e k = getD (flatten edgeTable) (2 * e + k) 0
 
 unfoldable pub oppositeCorner : ℕ → ℕ → ℕ
 oppositeCorner e k = getD (flatten oppositeTable) (2 * e + k) 0
+
+-- the position of the edge opposite each
+unfoldable pub oppositeEdge : ℕ → ℕ
+oppositeEdge e = getD (5 ∷ 4 ∷ 3 ∷ 2 ∷ 1 ∷ 0 ∷ []) e 0
 
 -- No corner of the edge is left out by a skin triangle: the edge is in each of them. `p c` says that the triangle that leaves out c is on the skin.
 unfoldable pub inBoth : (ℕ → Bool) → ℕ → Bool
@@ -45,6 +50,35 @@ module _ (e k : ℕ) (l : e < 6) (m : k < 2) where
 
   pub opposite-below : oppositeCorner e k < 4
   opposite-below = ltb-true (oppositeCorner e k) 4 (and-second (ltb (edgeCorner e k) 4) (ltb (oppositeCorner e k) 4) below)
+
+-- ---- the code's table has these edges, and opposite each the one that `rules` names
+
+readTest : ℕ → Bool
+readTest e = ltb (oppositeEdge e) 6 && all 2 (λ k. eqb (cornerOf (edgesAt + e) k) (edgeCorner e k) && eqb (edgeCorner (oppositeEdge e) k) (oppositeCorner e k))
+
+read-passes : all 6 readTest ≡ true
+unfolding all readTest cornerOf faceCorners triangleTable edgeTable vertices tabulate gather map oppositeEdge edgeCorner oppositeCorner oppositeTable flatten
+read-passes = refl
+
+module _ (e : ℕ) (l : e < 6) where
+  read : (ltb (oppositeEdge e) 6 ≡ true) × (all 2 (λ k. eqb (cornerOf (edgesAt + e) k) (edgeCorner e k) && eqb (edgeCorner (oppositeEdge e) k) (oppositeCorner e k)) ≡ true)
+  unfolding readTest
+  read = and-reads (λ t. t, λ t. t) (λ t. t, λ t. t) .0 (all-each 6 readTest read-passes e l)
+
+  pub opposite-edge-below : oppositeEdge e < 6
+  opposite-edge-below = ltb-true (oppositeEdge e) 6 (read .0)
+
+  module _ (k : ℕ) (m : k < 2) where
+    corners-read : (cornerOf (edgesAt + e) k ≡ edgeCorner e k) × (edgeCorner (oppositeEdge e) k ≡ oppositeCorner e k)
+    corners-read =
+        and-reads (eqb-reads (cornerOf (edgesAt + e) k) (edgeCorner e k)) (eqb-reads (edgeCorner (oppositeEdge e) k) (oppositeCorner e k)) .0
+        (all-each 2 (λ k. eqb (cornerOf (edgesAt + e) k) (edgeCorner e k) && eqb (edgeCorner (oppositeEdge e) k) (oppositeCorner e k)) (read .1) k m)
+
+    pub edge-corner-read : cornerOf (edgesAt + e) k ≡ edgeCorner e k
+    edge-corner-read = corners-read .0
+
+    pub opposite-corner-read : edgeCorner (oppositeEdge e) k ≡ oppositeCorner e k
+    opposite-corner-read = corners-read .1
 
 -- ---- an edge and its opposite have no corner in common
 

@@ -1,8 +1,9 @@
 // The answer to one proposal, and the mark that it names.
 use crate::cases::passes;
 use crate::free::on_other_side;
-use table::faces::pick;
 use table::holds;
+use table::row_count;
+use values::choose;
 use words::word_at;
 ghost use mathlib.Core.Path.{_≡_};
 ghost use mathlib.Core.Bool.{true, cond};
@@ -12,16 +13,16 @@ ghost use lib.ListN.{length, set};
 ghost use Rattle.rules.specs.Below.{bit};
 ghost use Rattle.rules.specs.Proposals.{answer, marksAfter};
 ghost use Rattle.rules.specs.Job.{proposalIn};
-ghost use Rattle.table.specs.Rows.{tableIn};
-ghost use Rattle.skin.specs.Ground.{Ground};
+ghost use Rattle.table.specs.Rows.{tableIn, rowsIn};
+ghost use Rattle.table.specs.Ground.{ClosedGround};
 ghost use Rattle.growth.specs.Answers.{proposal};
 
 // The first of the answers 1 to 5 that applies, or 0: taken.
 fn answer(rows: &[u8], neighbours: &[u32], marks: &[u8], row: usize, kind: usize) -> u8
-    requires { ⌜ Ground (now rows) (now neighbours) × (length (now rows) / 16 ≤ length (now marks)) ⌝ }
+    requires { ⌜ ClosedGround (now rows) (now neighbours) × (rowsIn (now rows) ≤ length (now marks)) ⌝ }
     ensures { λ r. ⌜ r ≡ answer (tableIn (now (rows .entry))) (now (marks .entry)) (proposal row kind) ⌝ }
 {
-    if row >= rows.len() / 16 {
+    if row >= row_count(rows) {
         return 1;
     }
     if !((kind == 1) | (kind == 2)) {
@@ -64,7 +65,7 @@ pub(crate) fn answer_one(
     answers: &mut [u8],
     marks: &mut [u8],
 ) -> usize
-    requires { ⌜ Ground (now rows) (now neighbours) × (length (now marks) ≡ length (now rows) / 16) × (k < length (now proposals) / 8) × (k < length (now answers)) ⌝ }
+    requires { ⌜ ClosedGround (now rows) (now neighbours) × (length (now marks) ≡ rowsIn (now rows)) × (k < length (now proposals) / 8) × (k < length (now answers)) ⌝ }
     ensures { λ r. ⌜ (r ≡ bit (eqb (answer (tableIn (now (rows .entry))) (now (marks .entry)) (proposalIn (now (proposals .entry)) k)) 0))
         × (now (answers .exit) ≡ set (now (answers .entry)) k (answer (tableIn (now (rows .entry))) (now (marks .entry)) (proposalIn (now (proposals .entry)) k)))
         × (now (marks .exit) ≡ marksAfter (tableIn (now (rows .entry))) (now (marks .entry)) (proposalIn (now (proposals .entry)) k)) ⌝ }
@@ -74,5 +75,5 @@ pub(crate) fn answer_one(
     let given = answer(rows, neighbours, marks, row, kind);
     answers[k] = given;
     set_mark(given == 0, row, mark_of(kind == 1), marks);
-    pick(given == 0, 1, 0)
+    choose(given == 0, 1, 0)
 }

@@ -1,6 +1,7 @@
 // Faces that are free of the other side.
 use skin::is_inside;
 use table::id_at;
+use table::row_count;
 ghost use mathlib.Core.Path.{_≡_};
 ghost use mathlib.Core.Bool.{_&&_, _||_};
 ghost use Prim.Native.Nat.{_/_, _≤_, _<_};
@@ -10,7 +11,7 @@ ghost use Rattle.rules.specs.Below.{all};
 ghost use Rattle.rules.specs.Table.{holds};
 ghost use Rattle.rules.specs.Cases.{otherSide};
 ghost use Rattle.rules.specs.Proposals.{insideIn};
-ghost use Rattle.table.specs.Rows.{tableIn};
+ghost use Rattle.table.specs.Rows.{tableIn, rowsIn};
 ghost use Rattle.growth.specs.Free.{touches, bothFree, vertexFree};
 
 // For an add the inside rows are the other side, for a remove the outside rows.
@@ -29,7 +30,7 @@ fn have_both(i: usize, j: usize, k: usize, l: usize, a: usize, b: usize) -> bool
 }
 
 fn holds_both(rows: &[u8], row: usize, a: usize, b: usize) -> bool
-    requires { ⌜ row < length (now rows) / 16 ⌝ }
+    requires { ⌜ row < rowsIn (now rows) ⌝ }
     ensures { λ r. ⌜ r ≡ (holds (tableIn (now (rows .entry))) row a && holds (tableIn (now (rows .entry))) row b) ⌝ }
 {
     have_both(
@@ -44,7 +45,7 @@ fn holds_both(rows: &[u8], row: usize, a: usize, b: usize) -> bool
 
 // A row of the other side that holds both ids. Its mark is the quickest to ask.
 fn touches(rows: &[u8], marks: &[u8], adding: bool, a: usize, b: usize, row: usize) -> bool
-    requires { ⌜ (row < length (now rows) / 16) × (row < length (now marks)) ⌝ }
+    requires { ⌜ (row < rowsIn (now rows)) × (row < length (now marks)) ⌝ }
     ensures { λ r. ⌜ r ≡ touches (tableIn (now (rows .entry))) (otherSide adding (insideIn (now (marks .entry)))) a b row ⌝ }
 {
     if on_other_side(marks, adding, row) {
@@ -55,10 +56,10 @@ fn touches(rows: &[u8], marks: &[u8], adding: bool, a: usize, b: usize, row: usi
 
 // No row of the other side holds both ids.
 pub(crate) fn both_free(rows: &[u8], marks: &[u8], adding: bool, a: usize, b: usize) -> bool
-    requires { ⌜ length (now rows) / 16 ≤ length (now marks) ⌝ }
+    requires { ⌜ rowsIn (now rows) ≤ length (now marks) ⌝ }
     ensures { λ r. ⌜ r ≡ bothFree (tableIn (now (rows .entry))) (otherSide adding (insideIn (now (marks .entry)))) a b ⌝ }
 {
-    let n = rows.len() / 16;
+    let n = row_count(rows);
     let mut row = 0;
     while row < n {
         if touches(rows, marks, adding, a, b, row) {
@@ -77,7 +78,7 @@ pub(crate) fn vertex_free(
     row: usize,
     corner: usize,
 ) -> bool
-    requires { ⌜ (length (now rows) / 16 ≤ length (now marks)) × (row < length (now rows) / 16) × (corner < 4) ⌝ }
+    requires { ⌜ (rowsIn (now rows) ≤ length (now marks)) × (row < rowsIn (now rows)) × (corner < 4) ⌝ }
     ensures { λ r. ⌜ r ≡ vertexFree (tableIn (now (rows .entry))) (otherSide adding (insideIn (now (marks .entry)))) row corner ⌝ }
 {
     let id = id_at(rows, row, corner);
@@ -85,7 +86,7 @@ pub(crate) fn vertex_free(
 }
 
 pub(crate) fn vertices_free(rows: &[u8], marks: &[u8], adding: bool, row: usize) -> bool
-    requires { ⌜ (length (now rows) / 16 ≤ length (now marks)) × (row < length (now rows) / 16) ⌝ }
+    requires { ⌜ (rowsIn (now rows) ≤ length (now marks)) × (row < rowsIn (now rows)) ⌝ }
     ensures { λ r. ⌜ r ≡ all 4 (vertexFree (tableIn (now (rows .entry))) (otherSide adding (insideIn (now (marks .entry)))) row) ⌝ }
 {
     let mut corner = 0;

@@ -11,8 +11,8 @@ ghost use Prim.Native.Nat.{_/_, _≤_};
 ghost use lib.ListN.{length};
 ghost use Rattle.rules.specs.Proposals.{answersTo, finalMarks, taken};
 ghost use Rattle.rules.specs.Job.{written};
-ghost use Rattle.table.specs.Rows.{tableIn};
-ghost use Rattle.skin.specs.Ground.{Ground};
+ghost use Rattle.table.specs.Rows.{tableIn, rowsIn};
+ghost use Rattle.table.specs.Ground.{ClosedGround};
 ghost use Rattle.growth.specs.Answers.{proposalsIn};
 
 // Answers the proposals one after the other, each on the marks then standing. The result is how many were taken.
@@ -23,7 +23,7 @@ pub fn answer_all(
     answers: &mut [u8],
     marks: &mut [u8],
 ) -> usize
-    requires { ⌜ Ground (now rows) (now neighbours) × (length (now marks) ≡ length (now rows) / 16) × (length (now proposals) / 8 ≤ length (now answers)) ⌝ }
+    requires { ⌜ ClosedGround (now rows) (now neighbours) × (length (now marks) ≡ rowsIn (now rows)) × (length (now proposals) / 8 ≤ length (now answers)) ⌝ }
     ensures { λ r. ⌜ (r ≡ taken (answersTo (tableIn (now (rows .entry))) (now (marks .entry)) (proposalsIn (now (proposals .entry)))))
         × (now (answers .exit) ≡ written (answersTo (tableIn (now (rows .entry))) (now (marks .entry)) (proposalsIn (now (proposals .entry)))) (now (answers .entry)))
         × (now (marks .exit) ≡ finalMarks (tableIn (now (rows .entry))) (now (marks .entry)) (proposalsIn (now (proposals .entry)))) ⌝ }

@@ -128,7 +128,7 @@ module _ (t : Table) (four : t .corners ≡ 4) {idCount : ℕ} (closed : Closed 
   corner {c} l = subst (λ (n : ℕ). c < n) (sym four) l
 
   ids-differ : {i j : ℕ} → i < 4 → j < 4 → i ≢ j → t .id r i ≢ t .id r j
-  ids-differ {i} {j} li lj ne e = ne (one-corner t (closed .rising r lr) i j (corner li) (corner lj) e)
+  ids-differ {i} {j} li lj ne e = ne (one-corner t (closed .paired .rising r lr) i j (corner li) (corner lj) e)
 
   -- ---- at the vertex of corner i
 

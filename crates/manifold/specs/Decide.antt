@@ -74,7 +74,7 @@ module _ (t : Table) (four : t .corners ≡ 4) {idCount : ℕ} (closed : Closed 
   free-edge {p} {q} lp lq ne = (
     λ none (b, skin). on-other none (λ z h. (h .0, h .1 .0)) skin,
     λ empty s ls o h.
-        empty (skin-at-edge t four closed inside (λ (e : t .id r p ≡ t .id r q). ne (one-corner t (closed .rising r lr) p q (below-corners lp) (below-corners lq) e)) lr ls
+        empty (skin-at-edge t four closed inside (λ (e : t .id r p ≡ t .id r q). ne (one-corner t (closed .paired .rising r lr) p q (below-corners lp) (below-corners lq) e)) lr ls
         ((p, below-corners lp, refl), (q, below-corners lq, refl)) h (other-differs o)),
   )
 

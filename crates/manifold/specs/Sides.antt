@@ -129,7 +129,7 @@ module _ (t : Table) (four : t .corners ≡ 4) where
     pub skin-at-vertex : {x y v : ℕ} → x < t .rows → y < t .rows → Holds t x v → Holds t y v → inside x ≢ inside y → (a : ℕ) × (b : ℕ) × Skin t inside v a b
     skin-at-vertex {x} {y} {v} lx ly hx hy ne =
         let w = change t (λ z. Holds t z v) inside (vertex-rule closed v x y (lx, hx) (ly, hy)) ne in
-        let (a, b, d, ox, oy) = shared-at-vertex (closed .rising (w .one) (w .one-below)) (w .next) (w .one-is) (w .two-is) in
+        let (a, b, d, ox, oy) = shared-at-vertex (closed .paired .rising (w .one) (w .one-below)) (w .next) (w .one-is) (w .two-is) in
         (a, b, (d, record { one = w .one; two = w .two; one-below = w .one-below; two-below = w .two-below; one-on = ox; two-on = oy; marks-differ = w .marks-differ }))
 
     -- and so is an edge
@@ -137,5 +137,5 @@ module _ (t : Table) (four : t .corners ≡ 4) where
         → (b : ℕ) × Skin t inside p q b
     skin-at-edge {x} {y} {p} {q} pq lx ly hx hy ne =
         let w = change t (λ z. Holds t z p × Holds t z q) inside (edge-rule closed four p q pq x y (lx, hx) (ly, hy)) ne in
-        let (b, d, ox, oy) = shared-at-edge (closed .rising (w .one) (w .one-below)) pq (w .next) (w .one-is) (w .two-is) in
+        let (b, d, ox, oy) = shared-at-edge (closed .paired .rising (w .one) (w .one-below)) pq (w .next) (w .one-is) (w .two-is) in
         (b, (d, record { one = w .one; two = w .two; one-below = w .one-below; two-below = w .two-below; one-on = ox; two-on = oy; marks-differ = w .marks-differ }))

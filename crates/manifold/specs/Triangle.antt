@@ -48,7 +48,7 @@ module _ (t : Table) where
     pub the-other-row : {v a b : ℕ} → Different v a b → (r : ℕ) → r < t .rows → On v a b r → TheOther (t .rows) (On v a b) r
     the-other-row {v} {a} {b} d r l (p, (q, m)) =
         let (c, lc, x) = triangle-of t four r v a b d p q m in
-        let o = across-is closed r c l (subst (λ (n : ℕ). c < n) (sym four) lc) in
+        let o = across-is (closed .paired) r c l (subst (λ (n : ℕ). c < n) (sym four) lc) in
         record {
           other = o .other;
           below = o .below;
@@ -93,7 +93,7 @@ module _ (t : Table) where
 
         forth : SkinTriangle t inside v a b → Skin inside v a b
         forth x =
-            let s = skin-between-sides t inside closed (x .row) (x .corner) (x .row-below) (corner-below (x .corner-below)) .0 (x .on-skin) in (
+            let s = skin-between-sides t inside (closed .paired) (x .row) (x .corner) (x .row-below) (corner-below (x .corner-below)) .0 (x .on-skin) in (
               x .different,
               record {
                 one = s .in-row;
@@ -112,7 +112,7 @@ module _ (t : Table) where
             at : (x y : ℕ) → x < t .rows → y < t .rows → On v a b x → On v a b y → inside x ≡ true → inside y ≡ false → farEdge t inside v a b ≡ true
             at x y lx ly (p, (q, m)) hy ix iy =
                 let (c, lc, ids) = triangle-of t four x v a b d p q m in
-                sym (skin-far t four inside ids d lc) ∙ skin-between-sides t inside closed x c lx (corner-below lc) .1 (record {
+                sym (skin-far t four inside ids d lc) ∙ skin-between-sides t inside (closed .paired) x c lx (corner-below lc) .1 (record {
                   in-row = x;
                   out-row = y;
                   in-below = lx;
@@ -133,9 +133,9 @@ module _ (t : Table) where
     ends-below : (inside : ℕ → Bool) (v a b : ℕ) → Skin inside v a b → (v < idCount) × (a < idCount) × (b < idCount)
     ends-below inside v a b (_, s) =
         let ((i, li, ei), ((j, lj, ej), (k, lk, ek))) = s .one-on in (
-          subst (λ (u : ℕ). u < idCount) ei (closed .below (s .one) (s .one-below) i li),
-          subst (λ (u : ℕ). u < idCount) ej (closed .below (s .one) (s .one-below) j lj),
-          subst (λ (u : ℕ). u < idCount) ek (closed .below (s .one) (s .one-below) k lk),
+          subst (λ (u : ℕ). u < idCount) ei (closed .paired .below (s .one) (s .one-below) i li),
+          subst (λ (u : ℕ). u < idCount) ej (closed .paired .below (s .one) (s .one-below) j lj),
+          subst (λ (u : ℕ). u < idCount) ek (closed .paired .below (s .one) (s .one-below) k lk),
         )
 
     -- one ring at v, by the far edges of `rules` and by skin triangles

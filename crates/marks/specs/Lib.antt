@@ -1,11 +1,3 @@
 -- What the code of `marks` means beyond `rules`, and the laws by which it is proved:
---     Ends   far edges kept by their ends
---     Rings  one ring, decided from the ends
---     Far    the far edges of a vertex, gathered place by place
---     Vertices  the vertices on the skin, flagged place by place
---     Start  codes 10 to 12, first match decides
-pub mod Ends
-pub mod Rings
-pub mod Far
-pub mod Vertices
+--     Start   codes 10 to 12, first match decides
 pub mod Start

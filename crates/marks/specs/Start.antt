@@ -12,9 +12,10 @@ use Rattle.rules.specs.Skin.{ringless}
 use Rattle.rules.specs.Proposals.{insideIn}
 use Rattle.rules.specs.Job.{markTests}
 use Rattle.rules.specs.Laws.First.{match-here, match-later, match-end}
-use Rattle.table.specs.declared.Found.{Found}
-use Rattle.table.specs.declared.Found.the-variants.{At, Nowhere}
-use Rattle.table.specs.Rows.{tableIn, placeOf}
+use Rattle.values.specs.declared.Found.{Found}
+use Rattle.values.specs.declared.Found.the-variants.{At, Nowhere}
+use Rattle.values.specs.Search.{placeOf}
+use Rattle.table.specs.Rows.{tableIn, rowsIn}
 use Rattle.marks.specs.declared.Unfit.{Unfit}
 use Rattle.marks.specs.declared.Unfit.the-variants.{Nothing, Mark, Outer, Vertex}
 
@@ -31,15 +32,15 @@ badMark marks r = not (eqb (getD marks r 0) 0 || eqb (getD marks r 0) 1)
 abbrev pub outerInside : Table → List ℕ → ℕ → Bool
 outerInside t marks r = outer t r && insideIn marks r
 
-module _ (bytes marks : List ℕ) (ids : ℕ) (each : length marks ≡ length bytes / 16) (bad : Found) (looked : placeOf bad ≡ lowest (length marks) (badMark marks)) where
-  found-bad : lowest (length bytes / 16) (badMark marks) ≡ placeOf bad
+module _ (bytes marks : List ℕ) (ids : ℕ) (each : length marks ≡ rowsIn bytes) (bad : Found) (looked : placeOf bad ≡ lowest (length marks) (badMark marks)) where
+  found-bad : lowest (rowsIn bytes) (badMark marks) ≡ placeOf bad
   found-bad = ap (λ (n : ℕ). lowest n (badMark marks)) (sym each) ∙ sym looked
 
   pub bad-found : {r : ℕ} → bad ≡ At r → verdictOf (Mark r) ≡ firstMatch 10 (markTests (tableIn bytes) ids marks)
   unfolding markTests
   bad-found {r} e = sym (match-here 10 _ _ r (found-bad ∙ ap placeOf e))
 
-  module _ (fine : bad ≡ Nowhere) (out : Found) (sought : placeOf out ≡ lowest (length bytes / 16) (outerInside (tableIn bytes) marks)) where
+  module _ (fine : bad ≡ Nowhere) (out : Found) (sought : placeOf out ≡ lowest (rowsIn bytes) (outerInside (tableIn bytes) marks)) where
     pub outer-found : {r : ℕ} → out ≡ At r → verdictOf (Outer r) ≡ firstMatch 10 (markTests (tableIn bytes) ids marks)
     unfolding markTests
     outer-found {r} e = sym (match-later 10 _ _ (found-bad ∙ ap placeOf fine) ∙ match-here 11 _ _ r (sym sought ∙ ap placeOf e))

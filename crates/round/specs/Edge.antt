@@ -13,7 +13,7 @@ use Rattle.rules.specs.Laws.Shape.{two-others}
 use Rattle.rules.specs.Laws.Joined.{stay, chain-ends, chain-map}
 use Rattle.rules.specs.Reading.Rows.{one-corner, Holds}
 use Rattle.rules.specs.Reading.Neighbours.{Side, Neighbours, neighbours-read, neighbours-back}
-use Rattle.rules.specs.Reading.Closed.{Closed, across-is, across-other, edge-rule}
+use Rattle.rules.specs.Reading.Closed.{Paired, Closed, across-is, across-other, edge-rule}
 use Rattle.rules.specs.Reading.Moves.{At, Move, leaves, move-good, step-is-move, both-reads, leaves-reads}
 use Rattle.rules.specs.Reading.Apart.{one-row}
 use Rattle.round.specs.Trail.{begins, goes, Going, Stopped, stopped-once, next-of, walk-few, walk-whole}
@@ -80,17 +80,17 @@ module _ {t : Table} {a b from x : ℕ} where
         leads-if = below-more (λ j. leads t a b from x j ≡ true → leads t a b from x c ≡ true) k (s .leads-if) (λ e. absurd (not-both e f));
       })
 
-module _ {t : Table} {idCount : ℕ} (closed : Closed t idCount) (four : t .corners ≡ 4) {a b : ℕ} (edge : a ≢ b) where
+module _ {t : Table} {idCount : ℕ} (paired : Paired t idCount) (four : t .corners ≡ 4) {a b : ℕ} (edge : a ≢ b) where
   pub near-at : (x y : ℕ) → Near t a b x y → At t a b y
-  near-at x y (at, (c, m, w, e)) = subst (At t a b) e (chain-ends (move-good t four (closed .rising) (closed .two) a b x x c (at .0) m (stay at refl) w))
+  near-at x y (at, (c, m, w, e)) = subst (At t a b) e (chain-ends (move-good paired four a b x x c (at .0) m (stay at refl) w))
 
   neighbours-near : (x y : ℕ) → At t a b x → At t a b y → Neighbours t x y → Near t a b x y
-  neighbours-near x y at at′ n = (at, step-is-move t four (closed .rising) (closed .two) a b x y at at′ (neighbours-read t x y .1 n))
+  neighbours-near x y at at′ n = (at, step-is-move paired four a b x y at at′ (neighbours-read t x y .1 n))
 
   -- the row across is another, and holds the triangle
   near-side : (x y : ℕ) (n : Near t a b x y) → (y ≢ x) × Side t x (n .1 .0) y
   near-side x y (at, (c, m, w, e)) =
-      let o = across-is closed x c (at .0) (rw four m) in
+      let o = across-is paired x c (at .0) (rw four m) in
       let same : o .other ≡ y = sym (across-other t x c o) ∙ e in
       (subst (λ u. u ≢ x) same (o .differs), subst (Side t x c) same (o .is))
 
@@ -104,7 +104,7 @@ module _ {t : Table} {idCount : ℕ} (closed : Closed t idCount) (four : t .corn
   near-back x y (at, (c, m, w, e)) =
       let at′ = near-at x y (at, (c, m, w, e)) in
       let (ne, on) = near-side x y (at, (c, m, w, e)) in
-      neighbours-near y x at′ at (neighbours-back t x y (closed .rising x (at .0)) (closed .rising y (at′ .0)) (Ne·symm ne, (c, rw four m, on)))
+      neighbours-near y x at′ at (neighbours-back t x y (paired .rising x (at .0)) (paired .rising y (at′ .0)) (Ne·symm ne, (c, rw four m, on)))
 
   -- the rows across the two triangles of a row that hold the edge
   pub near-two : (x : ℕ) → At t a b x → ExactlyTwo (t .rows) (Near t a b x)
@@ -115,7 +115,7 @@ module _ {t : Table} {idCount : ℕ} (closed : Closed t idCount) (four : t .corn
       corners i j mi mj p q (two-others i j mi mj (λ (e : i ≡ j). edge (sym p ∙ ap (t .id x) e ∙ q)))
     where
       same : (i j : ℕ) → i < 4 → j < 4 → t .id x i ≡ t .id x j → i ≡ j
-      same i j li lj e = one-corner t (closed .rising x l) i j (rw four li) (rw four lj) e
+      same i j li lj e = one-corner t (paired .rising x l) i j (rw four li) (rw four lj) e
 
       corners : (i j : ℕ) → i < 4 → j < 4 → t .id x i ≡ a → t .id x j ≡ b → ExactlyTwo 4 (λ m. (m ≢ i) × (m ≢ j)) → ExactlyTwo (t .rows) (Near t a b x)
       corners i j li lj p q two = record {
@@ -125,7 +125,7 @@ module _ {t : Table} {idCount : ℕ} (closed : Closed t idCount) (four : t .corn
         two-below = near-below x other second;
         one-is = first;
         two-is = second;
-        differ = λ (e : one ≡ other). near-apart x one first (one-row closed four x one l (near-below x one first) (all-held e));
+        differ = λ (e : one ≡ other). near-apart x one first (one-row paired four x one l (near-below x one first) (all-held e));
         only = λ y _ (_, (c, m, w, e)).
             let (na, nb) = leaves-reads t a b x c .0 w in
             ⊎-elim (λ (u : c ≡ two .one). inl (sym e ∙ ap (across t x) u)) (λ (u : c ≡ two .two). inr (sym e ∙ ap (across t x) u))
@@ -188,9 +188,9 @@ module _ {t : Table} {idCount : ℕ} (closed : Closed t idCount) (four : t .corn
         next = next-of near-back near-apart near-below (near-two y (n .0)) turn-next n ne;
       }
 
-    -- where its first row is next, each row that holds the edge is of the second's side, but perhaps the first
-    pub turn-whole : {k at : ℕ} → Turning t inside a b first second k at first → (z : ℕ) → At t a b z → z ≢ first → inside z ≡ inside second
-    turn-whole {at = at} w z (lz, hz) =
+    -- where its first row is next, by the edge rule each row that holds the edge is of the second's side, but perhaps the first
+    pub turn-whole : Closed t idCount → {k at : ℕ} → Turning t inside a b first second k at first → (z : ℕ) → At t a b z → z ≢ first → inside z ≡ inside second
+    turn-whole closed {at = at} w z (lz, hz) =
         let (lx, hx) = w .next .near .0 in
         walk-whole near-back near-apart near-below (near-back second first start) refl {Member = At t a b} w (near-two first (near-at second first start))
         (chain-map (λ u (l, h). (l, both-reads t a b u .1 h))

@@ -4,7 +4,7 @@ ghost use mathlib.Core.Path.{_≡_};
 ghost use Prim.Native.Nat.{_+_, _*_, _<_};
 ghost use lib.ListN.{length, getD};
 ghost use Rattle.rules.specs.Proposals.{insideIn};
-ghost use Rattle.skin.specs.Ground.{between};
+ghost use Rattle.skin.specs.Between.{between};
 
 // A row is marked inside. Every mark is read here.
 pub fn is_inside(marks: &[u8], row: usize) -> bool

@@ -2,7 +2,7 @@
 use mathlib.Core.Path.{_≡_, refl, sym, ap, _∙_}
 use mathlib.Core.Logic.{⊎-elim}
 use mathlib.Core.Bool.{Bool, true, false, _&&_, cond}
-use mathlib.Core.List.{List, [], _∷_, _++_, flatten, append-nil}
+use mathlib.Core.List.{List, [], _∷_, _++_, flatten, append-nil, map}
 use Prim.Native.Nat.{ℕ, suc, _+_, _-_, _*_, _/_, _%_, _^_, _≤_, _<_}
 use native.Mathlib.Nat.{not-suc-le-zero, le-antisymm, le-trans, mod-lt}
 use native.Mathlib.Numerals.{add-one}
@@ -10,8 +10,8 @@ use native.Mathlib.Omega.{arith}
 use lib.Dec.{lit<}
 use lib.ListN.{length, getD, set, length-append}
 use lib.Seq.{sets, length-sets}
-use Rattle.rules.specs.Below.{gather, only, pick}
-use Rattle.rules.specs.Shape.{facet}
+use Rattle.rules.specs.Below.{gather, only, pick, tabulate}
+use Rattle.rules.specs.Shape.{vertices as vertexTable, facet, triangleTable, edgeTable}
 use Rattle.rules.specs.Skin.{onSkin, triangle, skinOf, skin}
 use Rattle.rules.specs.Proposals.{insideIn}
 use Rattle.rules.specs.Job.{written}
@@ -22,15 +22,16 @@ use Rattle.rules.specs.Laws.Places.{row-of, within-row, row-below}
 use Rattle.rules.specs.Laws.Words.{word-below}
 use Rattle.rules.specs.Laws.Written.{written-none, written-run}
 use Rattle.rules.specs.Reading.Room.{at-most-2N, triangle-length}
-use Rattle.table.specs.Rows.{idIn, tableIn, id-word}
+use Rattle.table.specs.Rows.{idIn, tableIn, id-word, rowsIn}
 use Rattle.table.specs.Faces.{faceCorners, cornerOf}
-use Rattle.skin.specs.Ground.{Ground, between, between-skin, neighbour-below, neighbour-listed}
+use Rattle.table.specs.Ground.{Ground, neighbour-below, neighbour-listed}
+use Rattle.skin.specs.Between.{between, between-skin}
 
 -- ---- the corners of a triangle
 
 triangle-ids : (bytes : List ℕ) (r c : ℕ) → c < 4
     → triangle (tableIn bytes) r c ≡ idIn bytes r (cornerOf c 0) ∷ idIn bytes r (cornerOf c 1) ∷ idIn bytes r (cornerOf c 2) ∷ []
-unfolding triangle facet pick gather only cornerOf faceCorners
+unfolding triangle facet pick gather only cornerOf faceCorners triangleTable edgeTable vertexTable tabulate map flatten
 triangle-ids bytes r = below-suc P 3 (below-suc P 2 (below-suc P 1 (below-suc P 0 (λ c l. absurd (not-suc-le-zero l)) refl) refl) refl) refl
   where
     P : ℕ → Type 0
@@ -44,7 +45,7 @@ triangle-put bytes r c l triangles at ei ej ek =
     rw (triangle-ids bytes r c l, ei, ej, ek, two, ← add-one at)
 
 -- an id is a word of four bytes
-pub id-fits : (bytes : List ℕ) → ((k : ℕ) → getD bytes k 0 < 256) → (r c : ℕ) → r < length bytes / 16 → c < 4 → idIn bytes r c < 256 ^ 4
+pub id-fits : (bytes : List ℕ) → ((k : ℕ) → getD bytes k 0 < 256) → (r c : ℕ) → r < rowsIn bytes → c < 4 → idIn bytes r c < 256 ^ 4
 id-fits bytes small r c l m = rw (id-word bytes r c l m) (word-below 4 bytes small (16 * r + 4 * c))
 
 -- ---- place by place
@@ -58,25 +59,25 @@ listedAt bytes marks p =
 abbrev pub listedTo : List ℕ → List ℕ → ℕ → List (List ℕ)
 listedTo bytes marks p = gather p (listedAt bytes marks)
 
-whole-list : (bytes marks : List ℕ) → listedTo bytes marks (4 * (length bytes / 16)) ≡ skin (tableIn bytes) (insideIn marks)
+whole-list : (bytes marks : List ℕ) → listedTo bytes marks (4 * rowsIn bytes) ≡ skin (tableIn bytes) (insideIn marks)
 unfolding skin skinOf listedAt
 whole-list bytes marks =
-    gather-blocks 4 (length bytes / 16) (listedAt bytes marks)
-    ∙ gather-same (length bytes / 16) (λ r. gather 4 (λ c. listedAt bytes marks (4 * r + c))) (skinOf (tableIn bytes) (insideIn marks)) (λ r _.
+    gather-blocks 4 (rowsIn bytes) (listedAt bytes marks)
+    ∙ gather-same (rowsIn bytes) (λ r. gather 4 (λ c. listedAt bytes marks (4 * r + c))) (skinOf (tableIn bytes) (insideIn marks)) (λ r _.
     gather-same 4 (λ c. listedAt bytes marks (4 * r + c)) (λ c. only (insideIn marks r && onSkin (tableIn bytes) (insideIn marks) r c) (triangle (tableIn bytes) r c))
     (λ c l. rw (row-of {m = 4} (lit< tt) r c l, within-row {m = 4} (lit< tt) r c l)))
 
 -- a place is in the neighbour list, and the rows on both sides have marks
-pub place-fits : {bytes neighbours : List ℕ} → Ground bytes neighbours → (marks : List ℕ) → length bytes / 16 ≤ length marks → (place : ℕ) → place < 4 * (length bytes / 16)
+pub place-fits : {bytes neighbours : List ℕ} {ids : ℕ} → Ground bytes neighbours ids → (marks : List ℕ) → rowsIn bytes ≤ length marks → (place : ℕ) → place < 4 * rowsIn bytes
     → (4 * (place / 4) + place % 4 < length neighbours) × (place / 4 < length marks) × (getD neighbours (4 * (place / 4) + place % 4) 0 < length marks)
 place-fits {bytes} ground marks room place here =
-    let row : place / 4 < length bytes / 16 = row-below {m = 4} (lit< tt) (length bytes / 16) place here in
+    let row : place / 4 < rowsIn bytes = row-below {m = 4} (lit< tt) (rowsIn bytes) place here in
     let corner : place % 4 < 4 = mod-lt place (lit< tt) in
     (neighbour-listed ground (place / 4) (place % 4) row corner, le-trans row room, le-trans (neighbour-below ground (place / 4) (place % 4) row corner) room)
 
 -- before a place: n triangles stand at the front
 pub record Listing (bytes marks : List ℕ) (place n : ℕ) (triangles triangles₀ : List ℕ) : Type 0 where
-  pub upto : place ≤ 4 * (length bytes / 16)
+  pub upto : place ≤ 4 * rowsIn bytes
   pub kept : length triangles ≡ length triangles₀
   pub counted : n ≡ length (listedTo bytes marks place)
   pub words : 3 * n ≡ length (flatten (listedTo bytes marks place))
@@ -86,7 +87,7 @@ pub list-begins : (bytes marks triangles : List ℕ) → Listing bytes marks 0 0
 unfolding gather flatten
 list-begins bytes marks triangles = record { upto = omega arith; kept = refl; counted = refl; words = refl; front = written-none triangles }
 
-pub list-ends : {bytes marks : List ℕ} {place n : ℕ} {triangles triangles₀ : List ℕ} → Listing bytes marks place n triangles triangles₀ → 4 * (length bytes / 16) ≤ place
+pub list-ends : {bytes marks : List ℕ} {place n : ℕ} {triangles triangles₀ : List ℕ} → Listing bytes marks place n triangles triangles₀ → 4 * rowsIn bytes ≤ place
     → (n ≡ length (skin (tableIn bytes) (insideIn marks))) × (triangles ≡ written (flatten (skin (tableIn bytes) (insideIn marks))) triangles₀)
 list-ends {bytes} {marks} {place} {triangles₀ = triangles₀} l m =
     let whole = ap (listedTo bytes marks) (le-antisymm (l .upto) m) ∙ whole-list bytes marks in (
@@ -94,8 +95,8 @@ list-ends {bytes} {marks} {place} {triangles₀ = triangles₀} l m =
       l .front ∙ ap (λ (xs : List (List ℕ)). written (flatten xs) triangles₀) whole,
     )
 
-module _ {bytes neighbours : List ℕ} (ground : Ground bytes neighbours) (marks : List ℕ) {place n : ℕ} {triangles triangles₀ : List ℕ} (l : Listing bytes marks place n triangles triangles₀)
-    (here : place < 4 * (length bytes / 16)) (room : 6 * (length bytes / 16) ≤ length triangles₀)
+module _ {bytes neighbours : List ℕ} {idCount : ℕ} (ground : Ground bytes neighbours idCount) (marks : List ℕ) {place n : ℕ} {triangles triangles₀ : List ℕ} (l : Listing bytes marks place n triangles triangles₀)
+    (here : place < 4 * rowsIn bytes) (room : 6 * rowsIn bytes ≤ length triangles₀)
     {listed : Bool} (el : listed ≡ (insideIn marks (place / 4) && between neighbours marks (place / 4) (place % 4))) where
   ids : List ℕ
   ids = triangle (tableIn bytes) (place / 4) (place % 4)
@@ -105,7 +106,7 @@ module _ {bytes neighbours : List ℕ} (ground : Ground bytes neighbours) (marks
   more =
       gather-more place (listedAt bytes marks)
       ∙ ap (λ (b : Bool). listedTo bytes marks place ++ only b ids)
-      (sym (el ∙ ap (λ (b : Bool). insideIn marks (place / 4) && b) (between-skin ground (place / 4) (place % 4) (row-below {m = 4} (lit< tt) (length bytes / 16) place here) (mod-lt place (lit< tt)) marks)))
+      (sym (el ∙ ap (λ (b : Bool). insideIn marks (place / 4) && b) (between-skin ground (place / 4) (place % 4) (row-below {m = 4} (lit< tt) (rowsIn bytes) place here) (mod-lt place (lit< tt)) marks)))
 
   module _ (on : listed ≡ true) where
     one-more : listedTo bytes marks (place + 1) ≡ listedTo bytes marks place ++ ids ∷ []
@@ -125,9 +126,9 @@ module _ {bytes neighbours : List ℕ} (ground : Ground bytes neighbours) (marks
           arith,
           l .kept,
           n-more,
-          gather-grows (place + 1) (4 * (length bytes / 16)) (listedAt bytes marks) (omega arith),
+          gather-grows (place + 1) (4 * rowsIn bytes) (listedAt bytes marks) (omega arith),
           ap length (whole-list bytes marks),
-          at-most-2N (tableIn bytes) (insideIn marks) (ground .closed) refl,
+          at-most-2N (tableIn bytes) (insideIn marks) (ground .paired) refl,
         )
 
     found : Listing bytes marks (place + 1) (n + 1) (sets triangles (3 * n) ids) triangles₀

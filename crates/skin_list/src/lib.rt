@@ -2,7 +2,9 @@
 use skin::is_between;
 use skin::is_inside;
 use table::faces::corner_of;
+use table::faces::corner_table;
 use table::id_at;
+use table::row_count;
 ghost use mathlib.Core.Path.{_≡_};
 ghost use mathlib.Core.Bool.{true, _&&_, cond};
 ghost use mathlib.Core.List.{flatten};
@@ -12,16 +14,17 @@ ghost use lib.Seq.{sets};
 ghost use Rattle.rules.specs.Skin.{triangle, skin};
 ghost use Rattle.rules.specs.Proposals.{insideIn};
 ghost use Rattle.rules.specs.Job.{written};
-ghost use Rattle.table.specs.Rows.{idIn, tableIn};
-ghost use Rattle.table.specs.Faces.{cornerOf};
-ghost use Rattle.skin.specs.Ground.{Ground, between};
+ghost use Rattle.table.specs.Rows.{idIn, tableIn, rowsIn};
+ghost use Rattle.table.specs.Faces.{faceCorners, cornerOf};
+ghost use Rattle.table.specs.Ground.{Grounded};
+ghost use Rattle.skin.specs.Between.{between};
 
 // An id of the triangle of a row that leaves out a corner.
-fn triangle_id(rows: &[u8], row: usize, corner: usize, k: usize) -> u32
-    requires { ⌜ (row < length (now rows) / 16) × (corner < 4) × (k < 3) ⌝ }
+fn triangle_id(rows: &[u8], corners: &[u8; 42], row: usize, corner: usize, k: usize) -> u32
+    requires { ⌜ (row < rowsIn (now rows)) × (corner < 4) × (k < 3) × (now corners ≡ faceCorners) ⌝ }
     ensures { λ r. ⌜ r ≡ idIn (now (rows .entry)) row (cornerOf corner k) ⌝ }
 {
-    id_at(rows, row, corner_of(corner, k)) as u32
+    id_at(rows, row, corner_of(corners, corner, k)) as u32
 }
 
 // Writes three ids from a place on.
@@ -38,19 +41,20 @@ fn put_ids(triangles: &mut [u32], at: usize, a: u32, b: u32, c: u32)
 fn put(
     listed: bool,
     rows: &[u8],
+    corners: &[u8; 42],
     row: usize,
     corner: usize,
     triangles: &mut [u32],
     n: usize,
 ) -> usize
-    requires { ⌜ (row < length (now rows) / 16) × (corner < 4) × (listed ≡ true → 3 * n + 3 ≤ length (now triangles)) ⌝ }
+    requires { ⌜ (row < rowsIn (now rows)) × (corner < 4) × (listed ≡ true → 3 * n + 3 ≤ length (now triangles)) × (now corners ≡ faceCorners) ⌝ }
     ensures { λ r. ⌜ (r ≡ cond listed (n + 1) n)
         × (now (triangles .exit) ≡ cond listed (sets (now (triangles .entry)) (3 * n) (triangle (tableIn (now (rows .entry))) row corner)) (now (triangles .entry))) ⌝ }
 {
     if listed {
-        let a = triangle_id(rows, row, corner, 0);
-        let b = triangle_id(rows, row, corner, 1);
-        let c = triangle_id(rows, row, corner, 2);
+        let a = triangle_id(rows, corners, row, corner, 0);
+        let b = triangle_id(rows, corners, row, corner, 1);
+        let c = triangle_id(rows, corners, row, corner, 2);
         put_ids(triangles, 3 * n, a, b, c);
         return n + 1;
     }
@@ -67,16 +71,17 @@ fn is_listed(neighbours: &[u32], marks: &[u8], row: usize, corner: usize) -> boo
 
 // Writes the skin to the front of the triangles, row by row and by left-out corner, and tells how many triangles it has.
 pub fn list_skin(rows: &[u8], neighbours: &[u32], marks: &[u8], triangles: &mut [u32]) -> usize
-    requires { ⌜ Ground (now rows) (now neighbours) × (length (now rows) / 16 ≤ length (now marks)) × (6 * (length (now rows) / 16) ≤ length (now triangles)) ⌝ }
+    requires { ⌜ Grounded (now rows) (now neighbours) × (rowsIn (now rows) ≤ length (now marks)) × (6 * rowsIn (now rows) ≤ length (now triangles)) ⌝ }
     ensures { λ r. ⌜ (r ≡ length (skin (tableIn (now (rows .entry))) (insideIn (now (marks .entry)))))
         × (now (triangles .exit) ≡ written (flatten (skin (tableIn (now (rows .entry))) (insideIn (now (marks .entry))))) (now (triangles .entry))) ⌝ }
 {
-    let end = 4 * (rows.len() / 16);
+    let corners = corner_table();
+    let end = 4 * row_count(rows);
     let mut n = 0;
     let mut place = 0;
     while place < end {
         let listed = is_listed(neighbours, marks, place / 4, place % 4);
-        n = put(listed, rows, place / 4, place % 4, triangles, n);
+        n = put(listed, rows, &corners, place / 4, place % 4, triangles, n);
         place += 1;
     }
     n

@@ -3,13 +3,14 @@
 use mathlib.Core.Path.{_≡_, refl, sym, ap, _∙_}
 use mathlib.Core.Logic.{_⊎_, inl, inr, ⊎-elim}
 use mathlib.Core.Bool.{Bool, true, false, not, _&&_, _||_, cond, Bool·beq}
-use mathlib.Core.List.{List, [], _∷_}
-use Prim.Native.Nat.{ℕ, _+_, _*_, _/_, _%_, _^_, _≤_, _<_}
+use mathlib.Core.List.{List, [], _∷_, _++_, map, flatten}
+use Prim.Native.Nat.{ℕ, _+_, _*_, _%_, _≤_, _<_}
 use native.Mathlib.Omega.{arith}
 use lib.Dec.{eqb, ltb, lit<, lit≤}
 use lib.ListN.{getD}
 use borrow.Author.Tests.{eqb-true, eq-eqb, ltb-true, lt-ltb, ltb-false, not-true}
-use Rattle.rules.specs.Below.{any, all}
+use Rattle.rules.specs.Below.{any, all, gather, tabulate}
+use Rattle.rules.specs.Shape.{triangleTable, edgeTable, vertices as vertexTable}
 use Rattle.rules.specs.Table.{Table, holds}
 use Rattle.rules.specs.Laws.Truth.{true-or-false, not-both, same-test, and-first, and-second, and-both, or-either}
 use Rattle.rules.specs.Laws.Below.{any-some, all-each}
@@ -18,12 +19,16 @@ use Rattle.table.specs.declared.faces.Face.{Face}
 
 -- ---- the fixed table
 
+-- a face by three corners
+abbrev three : List ℕ → List ℕ
+three [] = []
+three (a ∷ []) = a ∷ a ∷ a ∷ []
+three (a ∷ b ∷ []) = a ∷ b ∷ b ∷ []
+three (a ∷ b ∷ c ∷ rest) = a ∷ b ∷ c ∷ []
+
+-- `rules`' triangles, edges and vertices
 unfoldable pub faceCorners : List ℕ
-faceCorners =
-    1 ∷ 2 ∷ 3 ∷ 0 ∷ 2 ∷ 3 ∷ 0 ∷ 1 ∷ 3 ∷ 0 ∷ 1 ∷ 2
-    ∷ 0 ∷ 1 ∷ 1 ∷ 0 ∷ 2 ∷ 2 ∷ 0 ∷ 3 ∷ 3 ∷ 1 ∷ 2 ∷ 2 ∷ 1 ∷ 3 ∷ 3 ∷ 2 ∷ 3 ∷ 3
-    ∷ 0 ∷ 0 ∷ 0 ∷ 1 ∷ 1 ∷ 1 ∷ 2 ∷ 2 ∷ 2 ∷ 3 ∷ 3 ∷ 3
-    ∷ []
+faceCorners = flatten (map three (triangleTable ++ (edgeTable ++ vertexTable 4)))
 
 -- corner k of a face, 0 to 2
 unfoldable pub cornerOf : ℕ → ℕ → ℕ
@@ -33,13 +38,32 @@ cornerOf face k = getD faceCorners (3 * face + k) 0
 abbrev pub Kind : ℕ → ℕ → Type 0
 Kind base m = ((base ≡ 0) × (m ≡ 4)) ⊎ (((base ≡ 4) × (m ≡ 6)) ⊎ ((base ≡ 10) × (m ≡ 4)))
 
-abbrev pub triangles : Kind 0 4
+-- where each kind begins, and how many of it a row has
+abbrev pub trianglesAt : ℕ
+trianglesAt = 0
+
+abbrev pub trianglesEach : ℕ
+trianglesEach = 4
+
+abbrev pub edgesAt : ℕ
+edgesAt = 4
+
+abbrev pub edgesEach : ℕ
+edgesEach = 6
+
+abbrev pub verticesAt : ℕ
+verticesAt = 10
+
+abbrev pub verticesEach : ℕ
+verticesEach = 4
+
+abbrev pub triangles : Kind trianglesAt trianglesEach
 triangles = inl (refl, refl)
 
-abbrev pub edges : Kind 4 6
+abbrev pub edges : Kind edgesAt edgesEach
 edges = inr (inl (refl, refl))
 
-abbrev pub vertices : Kind 10 4
+abbrev pub vertices : Kind verticesAt verticesEach
 vertices = inr (inr (refl, refl))
 
 -- ---- ids of a face
@@ -99,33 +123,12 @@ four-or-six (inr (inl (b, n))) f = rw n
 four-or-six (inr (inr (b, n))) f = rw n
 
 corners-pass : all 14 (λ face. all 3 (λ k. ltb (cornerOf face k) 4)) ≡ true
-unfolding all cornerOf faceCorners
+unfolding all cornerOf faceCorners triangleTable edgeTable vertexTable tabulate gather map flatten
 corners-pass = refl
 
 pub corner-below : (face k : ℕ) → face < 14 → k < 3 → cornerOf face k < 4
 corner-below face k l m =
     ltb-true (cornerOf face k) 4 (all-each 3 (λ k. ltb (cornerOf face k) 4) (all-each 14 (λ face. all 3 (λ k. ltb (cornerOf face k) 4)) corners-pass face l) k m)
-
--- the packed corners are those of the table
-packedTest : ℕ → ℕ → Bool
-packedTest word k = all 14 (λ face. eqb (word / 2 ^ (2 * face) % 4) (cornerOf face k))
-
-packed-pass : (packedTest 239681537 0 && packedTest 240105818 1 && packedTest 240105919 2) ≡ true
-unfolding packedTest all cornerOf faceCorners
-packed-pass = refl
-
-packed-is : (word k : ℕ) → packedTest word k ≡ true → (face : ℕ) → face < 14 → word / 2 ^ (2 * face) % 4 ≡ cornerOf face k
-unfolding packedTest
-packed-is word k e face l = eqb-true (word / 2 ^ (2 * face) % 4) (cornerOf face k) (all-each 14 (λ face. eqb (word / 2 ^ (2 * face) % 4) (cornerOf face k)) e face l)
-
-pub first-packed : (face : ℕ) → face < 14 → 239681537 / 2 ^ (2 * face) % 4 ≡ cornerOf face 0
-first-packed = packed-is 239681537 0 (and-first (packedTest 239681537 0) (packedTest 240105818 1) (and-first (packedTest 239681537 0 && packedTest 240105818 1) (packedTest 240105919 2) packed-pass))
-
-pub second-packed : (face : ℕ) → face < 14 → 240105818 / 2 ^ (2 * face) % 4 ≡ cornerOf face 1
-second-packed = packed-is 240105818 1 (and-second (packedTest 239681537 0) (packedTest 240105818 1) (and-first (packedTest 239681537 0 && packedTest 240105818 1) (packedTest 240105919 2) packed-pass))
-
-pub third-packed : (face : ℕ) → face < 14 → 240105919 / 2 ^ (2 * face) % 4 ≡ cornerOf face 2
-third-packed = packed-is 240105919 2 (and-second (packedTest 239681537 0 && packedTest 240105818 1) (packedTest 240105919 2) packed-pass)
 
 pub face-is : (t : Table) (r face : ℕ) {i j k : ℕ} {f : Face} → i ≡ cornerOf face 0 → j ≡ cornerOf face 1 → k ≡ cornerOf face 2
     → f .a ≡ t .id r i → f .b ≡ t .id r j → f .c ≡ t .id r k → f ≡ faceOf t r face
@@ -134,7 +137,7 @@ face-is t r face ei ej ek ea eb ec = λ x. record { a = (ea ∙ ap (t .id r) ei)
 
 -- an edge and a vertex repeat their last corner
 repeats-pass : all 14 (λ face. ltb face 4 || eqb (cornerOf face 2) (cornerOf face 1)) ≡ true
-unfolding all cornerOf faceCorners
+unfolding all cornerOf faceCorners triangleTable edgeTable vertexTable tabulate gather map flatten
 repeats-pass = refl
 
 pub repeats : (face : ℕ) → 4 ≤ face → face < 14 → cornerOf face 2 ≡ cornerOf face 1
@@ -144,7 +147,7 @@ repeats face l m =
 
 -- a vertex has its corner three times
 vertices-pass : all 4 (λ c. all 3 (λ k. eqb c (cornerOf (10 + c) k))) ≡ true
-unfolding all cornerOf faceCorners
+unfolding all cornerOf faceCorners triangleTable edgeTable vertexTable tabulate gather map flatten
 vertices-pass = refl
 
 pub vertex-is : (t : Table) (r c : ℕ) → c < 4 → {v : ℕ} → v ≡ t .id r c → record { a = v; b = v; c = v } ≡ faceOf t r (10 + c)
@@ -172,7 +175,7 @@ alikeTests : ℕ → ℕ → Bool
 alikeTests base m = all m (λ d. all 4 (λ i. all 4 (λ j. all 4 (alikeTest base m d i j))))
 
 alike-pass : kinds alikeTests ≡ true
-unfolding kinds all any alikeTests alikeTest sameOrder isFace cornerOf faceCorners
+unfolding kinds all any alikeTests alikeTest sameOrder isFace cornerOf faceCorners triangleTable edgeTable vertexTable tabulate gather map flatten
 alike-pass = refl
 
 -- no two faces of a kind have the same corners
@@ -183,7 +186,7 @@ apartTests : ℕ → ℕ → Bool
 apartTests base m = all m (λ d. all m (apartTest base d))
 
 apart-pass : kinds apartTests ≡ true
-unfolding kinds all apartTests apartTest isFace cornerOf faceCorners
+unfolding kinds all apartTests apartTest isFace cornerOf faceCorners triangleTable edgeTable vertexTable tabulate gather map flatten
 apart-pass = refl
 
 -- ---- what the tests say

@@ -1,7 +1,7 @@
 -- The rows that hold an edge or a vertex: whether they are joined is found by a flood from one of them.
 use mathlib.Core.Path.{_≡_, refl, sym, ap, _∙_, subst}
 use mathlib.Core.Bool.{Bool, true, false, not, _&&_, cond, and-assoc, and-true, and-self}
-use mathlib.Core.List.{List, [], _∷_}
+use mathlib.Core.List.{List, [], _∷_, map, flatten}
 use mathlib.Core.Option.{some, none}
 use Prim.Native.Nat.{ℕ, _+_, _*_, _/_, _%_, _≤_, _<_}
 use native.Mathlib.Nat.{mod-lt}
@@ -12,7 +12,7 @@ use lib.Seq.{getD-set-other}
 use borrow.Author.Tests.{not-true, not-false}
 use Rattle.rules.specs.Below.{lowest, any, all, gather, tabulate, count, pick}
 use Rattle.rules.specs.Joined.{connected}
-use Rattle.rules.specs.Shape.{edgeTable, vertices}
+use Rattle.rules.specs.Shape.{edgeTable, vertices, triangleTable}
 use Rattle.rules.specs.Table.{Table, holds, neighbours, across, holdsFace, faceJoined, facesJoined, edgesJoined, verticesJoined}
 use Rattle.rules.specs.Laws.Below.{any-some, all-same}
 use Rattle.rules.specs.Laws.Truth.{and-first}
@@ -22,14 +22,14 @@ use Rattle.rules.specs.Laws.Places.{row-of, within-row}
 use Rattle.rules.specs.Laws.Joined.{stay, Picked}
 use Rattle.rules.specs.Reading.Rows.{Rising}
 use Rattle.rules.specs.Reading.Neighbours.{neighbours-read, neighbours-back}
-use Rattle.rules.specs.Reading.Closed.{TrianglesShared, triangles-read}
-use Rattle.rules.specs.Reading.Moves.{both, leaves, Joining, across-below, move-good, step-is-move}
+use Rattle.rules.specs.Reading.Closed.{Paired, across-below}
+use Rattle.rules.specs.Reading.Moves.{both, leaves, Joining, move-good, step-is-move}
 use Rattle.table.specs.declared.faces.Face.{Face}
 use Rattle.table.specs.Faces.{Kind, faceCorners, cornerOf, faceOf, holdsIds, same-ids, own-face, kind-small, repeats}
 use Rattle.table.specs.Places.{faceAt, face-at, like, like-count, broken-row, broken-none}
-use Rattle.table.specs.Rows.{tableIn, RisingRows, each-rising}
-use Rattle.table.specs.Triangles.{Neighboured}
-use Rattle.queue.specs.Flood.{stamped, Flooding, Flooded, flood-begins, flood-turn, flood-room, flood-ends, joined-by-count}
+use Rattle.table.specs.Rows.{rowsIn, tableIn, RisingRows}
+use Rattle.table.specs.Ground.{Ground}
+use Rattle.floods.specs.Flood.{stamped, Flooding, Flooded, flood-begins, flood-turn, flood-room, flood-ends, joined-by-count}
 
 unfoldable pub bothJoined : Table → ℕ → ℕ → Bool
 bothJoined t a b = connected (neighbours t) (pick (t .rows) (both t a b))
@@ -75,11 +75,11 @@ module _ (t : Table) (r : ℕ) where
   vertex-joined c = ap (connected (neighbours t)) (pick-same (t .rows) (holdsFace t r (c ∷ [])) (both t (t .id r c) (t .id r c)) (λ s _. and-true (holds t s (t .id r c)) ∙ sym (and-self (holds t s (t .id r c)))))
 
   pub edges-joined : edgesJoined t r ≡ allJoined t 4 6 r
-  unfolding edgesJoined facesJoined edgeTable allJoined all idsJoined faceOf cornerOf faceCorners
+  unfolding edgesJoined facesJoined edgeTable allJoined all idsJoined faceOf cornerOf faceCorners triangleTable vertices tabulate gather map flatten
   edges-joined = rw (edge-joined 0 1, edge-joined 0 2, edge-joined 0 3, edge-joined 1 2, edge-joined 1 3, edge-joined 2 3) (simp (and-assoc, and-true))
 
   pub vertices-joined : t .corners ≡ 4 → verticesJoined t r ≡ allJoined t 10 4 r
-  unfolding verticesJoined facesJoined vertices tabulate gather allJoined all idsJoined faceOf cornerOf faceCorners
+  unfolding verticesJoined facesJoined vertices tabulate gather allJoined all idsJoined faceOf cornerOf faceCorners triangleTable edgeTable map flatten
   vertices-joined four =
       ap (λ (n : ℕ). facesJoined t r (vertices n)) four
       ∙ rw (vertex-joined 0, vertex-joined 1, vertex-joined 2, vertex-joined 3) (simp (and-assoc, and-true))
@@ -103,44 +103,41 @@ both-count t four up {base} {m} kind l p lp =
 pub four-ways : 0 < 4
 four-ways = lit< tt
 
-module _ (t : Table) (four : t .corners ≡ 4) (up : (r : ℕ) → r < t .rows → Rising t r) (two : (r : ℕ) → r < t .rows → TrianglesShared t r) where
+module _ {t : Table} {idCount : ℕ} (paired : Paired t idCount) (four : t .corners ≡ 4) where
   -- As many rows are reached as hold a and b, exactly if these are joined.
   pub rows-joined : (a b k start : ℕ) (stamp : List ℕ) (reached : ℕ) → Picked (t .rows) (both t a b) start
       → Flooded four-ways (t .rows) k start (leaves t a b) (across t) (Joining t a b start) stamp reached → eqb reached (count (t .rows) (both t a b)) ≡ bothJoined t a b
   unfolding bothJoined
   rows-joined a b k start =
       joined-by-count four-ways (t .rows) k start (leaves t a b) (across t) (both t a b) (neighbours t)
-      (λ x y (lx, _) (ly, _) n. neighbours-read t y x .1 (neighbours-back t x y (up x lx) (up y ly) (neighbours-read t x y .0 n))) (step-is-move t four up two a b)
+      (λ x y (lx, _) (ly, _) n. neighbours-read t y x .1 (neighbours-back t x y (paired .rising x lx) (paired .rising y ly) (neighbours-read t x y .0 n))) (step-is-move paired four a b)
 
 -- ---- the flood over a row section
 
 abbrev pub FloodingRows : List ℕ → ℕ → ℕ → ℕ → ℕ → List ℕ → List ℕ → ℕ → ℕ → Type 0
-FloodingRows bytes a b start k = Flooding four-ways (length bytes / 16) k start (leaves (tableIn bytes) a b) (across (tableIn bytes)) (Joining (tableIn bytes) a b start)
+FloodingRows bytes a b start k = Flooding four-ways (rowsIn bytes) k start (leaves (tableIn bytes) a b) (across (tableIn bytes)) (Joining (tableIn bytes) a b start)
 
-shared-triangles : {bytes work : List ℕ} → Neighboured bytes work → (r : ℕ) → r < length bytes / 16 → TrianglesShared (tableIn bytes) r
-shared-triangles {bytes} nb r l = triangles-read (tableIn bytes) r .0 (nb .shared r l)
-
-module _ {bytes work : List ℕ} (nb : Neighboured bytes work) (a b start k : ℕ) where
-  pub rows-begin : (stamp queue : List ℕ) → start < length bytes / 16 → both (tableIn bytes) a b start ≡ true → length stamp ≡ 2048 → length queue ≡ 2048
-      → ((y : ℕ) → y < length bytes / 16 → getD stamp y 0 < k) → FloodingRows bytes a b start k (set stamp start k) (set queue 0 start) 0 1
-  rows-begin stamp queue l held = flood-begins four-ways (length bytes / 16) k start (leaves (tableIn bytes) a b) (across (tableIn bytes)) (Joining (tableIn bytes) a b start) stamp queue l (nb .rows .few) (stay (l, held) refl)
+module _ {bytes work : List ℕ} {ids : ℕ} (ground : Ground bytes work ids) (a b start k : ℕ) where
+  pub rows-begin : (stamp queue : List ℕ) → start < rowsIn bytes → both (tableIn bytes) a b start ≡ true → length stamp ≡ 2048 → length queue ≡ 2048
+      → ((y : ℕ) → y < rowsIn bytes → getD stamp y 0 < k) → FloodingRows bytes a b start k (set stamp start k) (set queue 0 start) 0 1
+  rows-begin stamp queue l held = flood-begins four-ways (rowsIn bytes) k start (leaves (tableIn bytes) a b) (across (tableIn bytes)) (Joining (tableIn bytes) a b start) stamp queue l (ground .few) (stay (l, held) refl)
 
   module _ {stamp queue : List ℕ} {i tail : ℕ} (f : FloodingRows bytes a b start k stamp queue i tail) where
     pub few-reached : tail ≤ 2048
-    few-reached = omega (arith, nb .rows .few, f .counted, count-not (length bytes / 16) (stamped k stamp))
+    few-reached = omega (arith, ground .few, f .counted, count-not (rowsIn bytes) (stamped k stamp))
 
-    pub rows-end : start < length bytes / 16 → both (tableIn bytes) a b start ≡ true → 4 * tail ≤ i → (eqb tail (count (length bytes / 16) (both (tableIn bytes) a b)) ≡ bothJoined (tableIn bytes) a b)
-        × (length stamp ≡ 2048) × (length queue ≡ 2048) × ((y : ℕ) → y < length bytes / 16 → getD stamp y 0 ≤ k)
-    rows-end ls held l = (rows-joined (tableIn bytes) refl (each-rising (nb .rows)) (shared-triangles nb) a b k start stamp tail (ls, held) (flood-ends four-ways (length bytes / 16) k start (leaves (tableIn bytes) a b) (across (tableIn bytes)) (Joining (tableIn bytes) a b start) f l), f .stamps, f .places, f .low)
+    pub rows-end : start < rowsIn bytes → both (tableIn bytes) a b start ≡ true → 4 * tail ≤ i → (eqb tail (count (rowsIn bytes) (both (tableIn bytes) a b)) ≡ bothJoined (tableIn bytes) a b)
+        × (length stamp ≡ 2048) × (length queue ≡ 2048) × ((y : ℕ) → y < rowsIn bytes → getD stamp y 0 ≤ k)
+    rows-end ls held l = (rows-joined (ground .paired) refl a b k start stamp tail (ls, held) (flood-ends four-ways (rowsIn bytes) k start (leaves (tableIn bytes) a b) (across (tableIn bytes)) (Joining (tableIn bytes) a b start) f l), f .stamps, f .places, f .low)
 
 -- row x stands at place i of the queue, and the corners below `corner` are done
 pub record Spreading (bytes : List ℕ) (a b start k i x corner : ℕ) (stamp queue : List ℕ) (tail : ℕ) : Type 0 where
   pub flood : FloodingRows bytes a b start k stamp queue (4 * i + corner) tail
-  pub from : start < length bytes / 16
+  pub from : start < rowsIn bytes
   pub waits : i < tail
   pub at : x ≡ getD queue i 0
 
-pub spread-begins : {bytes : List ℕ} {a b start k i x : ℕ} {stamp queue : List ℕ} {tail : ℕ} → FloodingRows bytes a b start k stamp queue (4 * i) tail → start < length bytes / 16 → i < tail → x ≡ getD queue i 0
+pub spread-begins : {bytes : List ℕ} {a b start k i x : ℕ} {stamp queue : List ℕ} {tail : ℕ} → FloodingRows bytes a b start k stamp queue (4 * i) tail → start < rowsIn bytes → i < tail → x ≡ getD queue i 0
     → Spreading bytes a b start k i x 0 stamp queue tail
 spread-begins {bytes} {a} {b} {start} {k} {i} {x} {stamp} {queue} {tail} f ls l e = record {
   flood = subst (λ (turn : ℕ). FloodingRows bytes a b start k stamp queue turn tail) (omega arith) f;
@@ -153,17 +150,17 @@ pub spread-ends : {bytes : List ℕ} {a b start k i x : ℕ} {stamp queue : List
     → FloodingRows bytes a b start k stamp queue (4 * (i + 1)) tail
 spread-ends {bytes} {a} {b} {start} {k} {i} {x} {stamp} {queue} {tail} s = subst (λ (turn : ℕ). FloodingRows bytes a b start k stamp queue turn tail) (omega arith) (s .flood)
 
-module _ {bytes work : List ℕ} (nb : Neighboured bytes work) (a b start k i x corner : ℕ) (lc : corner < 4) {stamp queue : List ℕ} {tail : ℕ}
+module _ {bytes work : List ℕ} {ids : ℕ} (ground : Ground bytes work ids) (a b start k i x corner : ℕ) (lc : corner < 4) {stamp queue : List ℕ} {tail : ℕ}
     (s : Spreading bytes a b start k i x corner stamp queue tail) where
-  pub reached-below : x < length bytes / 16
+  pub reached-below : x < rowsIn bytes
   reached-below = rw (s .at) (s .flood .inside i (s .waits) .0)
 
   module _ {y : ℕ} (ey : y ≡ getD work (4 * x + corner) 0) where
     is-across : y ≡ across (tableIn bytes) x corner
-    is-across = ey ∙ nb .at x corner reached-below lc
+    is-across = ey ∙ ground .at x corner reached-below lc
 
-    across-near : y < length bytes / 16
-    across-near = rw is-across (across-below (tableIn bytes) refl (each-rising (nb .rows)) (shared-triangles nb) x corner reached-below lc)
+    across-near : y < rowsIn bytes
+    across-near = rw is-across (across-below (ground .paired) x corner reached-below lc)
 
     module _ {way : Bool} (ew : way ≡ leaves (tableIn bytes) a b x corner) where
       -- a turn that finds the row across, if it is fresh
@@ -173,9 +170,9 @@ module _ {bytes work : List ℕ} (nb : Neighboured bytes work) (a b start k i x 
       unfolding stamped
       turn {stamp′} {queue′} {tail′} es eq et = record {
         flood = subst (λ (turn : ℕ). FloodingRows bytes a b start k stamp′ queue′ turn tail′) (omega arith)
-            (flood-turn four-ways (length bytes / 16) k start (leaves (tableIn bytes) a b) (across (tableIn bytes)) (Joining (tableIn bytes) a b start) (s .flood) (omega (arith, s .waits)) {x = x} {y = y}
-            (rw (row-of four-ways i corner lc) (s .at)) (rw (within-row four-ways i corner lc) is-across) (nb .rows .few) across-near
-            (rw (within-row four-ways i corner lc) (λ w. rw is-across (move-good (tableIn bytes) refl (each-rising (nb .rows)) (shared-triangles nb) a b start x corner reached-below lc (rw (s .at) (s .flood .inside i (s .waits) .1)) w)))
+            (flood-turn four-ways (rowsIn bytes) k start (leaves (tableIn bytes) a b) (across (tableIn bytes)) (Joining (tableIn bytes) a b start) (s .flood) (omega (arith, s .waits)) {x = x} {y = y}
+            (rw (row-of four-ways i corner lc) (s .at)) (rw (within-row four-ways i corner lc) is-across) (ground .few) across-near
+            (rw (within-row four-ways i corner lc) (λ w. rw is-across (move-good (ground .paired) refl a b start x corner reached-below lc (rw (s .at) (s .flood .inside i (s .waits) .1)) w)))
             {fresh = way && not (eqb (getD stamp y 0) k)} (rw (within-row four-ways i corner lc) (ap (λ (v : Bool). v && not (eqb (getD stamp y 0) k)) ew)) es eq et);
         from = s .from;
         waits = rw et (longer (way && not (eqb (getD stamp y 0) k)));
@@ -192,10 +189,10 @@ module _ {bytes work : List ℕ} (nb : Neighboured bytes work) (a b start k i x 
 
       -- y where one leaves, else the start
       module _ {z : ℕ} (ez : z ≡ cond way y start) where
-        pub next-below : z < length bytes / 16
+        pub next-below : z < rowsIn bytes
         next-below = rw ez (either way)
           where
-            either : (b : Bool) → cond b y start < length bytes / 16
+            either : (b : Bool) → cond b y start < rowsIn bytes
             either true = across-near
             either false = s .from
 
@@ -205,8 +202,8 @@ module _ {bytes work : List ℕ} (nb : Neighboured bytes work) (a b start k i x 
         next-room on =
             omega (
               arith,
-              nb .rows .few,
-              flood-room four-ways (length bytes / 16) k start (leaves (tableIn bytes) a b) (across (tableIn bytes)) (Joining (tableIn bytes) a b start) (s .flood) z next-below (not-true (stamped k stamp z) on),
+              ground .few,
+              flood-room four-ways (rowsIn bytes) k start (leaves (tableIn bytes) a b) (across (tableIn bytes)) (Joining (tableIn bytes) a b start) (s .flood) z next-below (not-true (stamped k stamp z) on),
             )
 
         -- what is done to a fresh z is done to y, if one leaves and y is fresh
@@ -230,7 +227,7 @@ unjoinedAt t base m q = not (idsJoined t (faceAt t base m q))
 
 module _ (bytes : List ℕ) {base m : ℕ} (joint : Joint base m) where
   -- the rule at a row
-  rule-by-places : (up : (r : ℕ) → r < length bytes / 16 → Rising (tableIn bytes) r) (r : ℕ) → r < length bytes / 16
+  rule-by-places : (up : (r : ℕ) → r < rowsIn bytes → Rising (tableIn bytes) r) (r : ℕ) → r < rowsIn bytes
       → allJoined (tableIn bytes) base m r ≡ all m (λ e. idsJoined (tableIn bytes) (faceAt (tableIn bytes) base m (m * r + e)))
   unfolding allJoined
   rule-by-places up r l =
@@ -259,19 +256,19 @@ module _ (bytes : List ℕ) {base m : ℕ} (joint : Joint base m) where
       held v = holds t (place / m) v
 
   -- the flood has reached as many rows as there are places with the ids
-  pub joined-found : RisingRows bytes → (place : ℕ) → place < m * (length bytes / 16) → {f : Face} → f ≡ faceAt (tableIn bytes) base m place → (reached : ℕ) {n : ℕ}
-      → eqb reached (count (length bytes / 16) (both (tableIn bytes) (f .a) (f .b))) ≡ bothJoined (tableIn bytes) (f .a) (f .b)
-      → n ≡ count (m * (length bytes / 16)) (like (tableIn bytes) base m place) → eqb reached n ≡ idsJoined (tableIn bytes) (faceAt (tableIn bytes) base m place)
+  pub joined-found : RisingRows bytes → (place : ℕ) → place < m * rowsIn bytes → {f : Face} → f ≡ faceAt (tableIn bytes) base m place → (reached : ℕ) {n : ℕ}
+      → eqb reached (count (rowsIn bytes) (both (tableIn bytes) (f .a) (f .b))) ≡ bothJoined (tableIn bytes) (f .a) (f .b)
+      → n ≡ count (m * rowsIn bytes) (like (tableIn bytes) base m place) → eqb reached n ≡ idsJoined (tableIn bytes) (faceAt (tableIn bytes) base m place)
   unfolding idsJoined
   joined-found rows place l {f} e reached found counted =
-      ap (eqb reached) (counted ∙ both-count (tableIn bytes) refl (each-rising rows) (joint .0) (joint .1) place l) ∙ (rw e at found)
+      ap (eqb reached) (counted ∙ both-count (tableIn bytes) refl (rows .rise) (joint .0) (joint .1) place l) ∙ (rw e at found)
 
-  pub unjoined-row : RisingRows bytes → (p : ℕ) → lowest (m * (length bytes / 16)) (unjoinedAt (tableIn bytes) base m) ≡ some p → some (p / m) ≡ lowest (length bytes / 16) (unjoined (tableIn bytes) base m)
+  pub unjoined-row : RisingRows bytes → (p : ℕ) → lowest (m * rowsIn bytes) (unjoinedAt (tableIn bytes) base m) ≡ some p → some (p / m) ≡ lowest (rowsIn bytes) (unjoined (tableIn bytes) base m)
   unjoined-row rows p e =
-      sym (broken-row (kind-small (joint .0) .0) (length bytes / 16) (λ q. idsJoined (tableIn bytes) (faceAt (tableIn bytes) base m q)) (allJoined (tableIn bytes) base m)
-      (rule-by-places (each-rising rows)) p e)
+      sym (broken-row (kind-small (joint .0) .0) (rowsIn bytes) (λ q. idsJoined (tableIn bytes) (faceAt (tableIn bytes) base m q)) (allJoined (tableIn bytes) base m)
+      (rule-by-places (rows .rise)) p e)
 
-  pub unjoined-none : RisingRows bytes → lowest (m * (length bytes / 16)) (unjoinedAt (tableIn bytes) base m) ≡ none → none ≡ lowest (length bytes / 16) (unjoined (tableIn bytes) base m)
+  pub unjoined-none : RisingRows bytes → lowest (m * rowsIn bytes) (unjoinedAt (tableIn bytes) base m) ≡ none → none ≡ lowest (rowsIn bytes) (unjoined (tableIn bytes) base m)
   unjoined-none rows e =
-      sym (broken-none (kind-small (joint .0) .0) (length bytes / 16) (λ q. idsJoined (tableIn bytes) (faceAt (tableIn bytes) base m q)) (allJoined (tableIn bytes) base m)
-      (rule-by-places (each-rising rows)) e)
+      sym (broken-none (kind-small (joint .0) .0) (rowsIn bytes) (λ q. idsJoined (tableIn bytes) (faceAt (tableIn bytes) base m q)) (allJoined (tableIn bytes) base m)
+      (rule-by-places (rows .rise)) e)

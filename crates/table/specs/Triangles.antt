@@ -1,20 +1,19 @@
 -- The triangles of a row, found by like places: the triangle rule and the row across.
 use mathlib.Core.Path.{_≡_, refl, sym, ap, _∙_}
 use mathlib.Core.Logic.{_≢_}
-use mathlib.Core.List.{List}
+use mathlib.Core.List.{List, map, flatten}
 use mathlib.Core.Option.{some, none}
 use mathlib.Core.Bool.{Bool, true, not, _&&_, and-true}
 use Prim.Native.Nat.{ℕ, _+_, _*_, _/_, _%_, _≤_, _<_}
 use native.Mathlib.Nat.{not-suc-le-zero, le-antisymm, zero-add, mod-lt, div-add-mod}
 use native.Mathlib.Omega.{arith}
 use lib.Dec.{eqb, lit<}
-use lib.ListN.{length, getD, set, replicate, length-set, length-replicate}
+use lib.ListN.{length, set, length-set}
 use borrow.Author.Tests.{eq-eqb, eqb-false, ne-eqb, not-true}
 use Rattle.rules.specs.Below.{lowest, all, allBut, count, gather, tabulate}
 use Rattle.rules.specs.Table.{Table, holds, side, across, neighbourList, trianglesShared}
 use Rattle.rules.specs.Job.{written}
-use Rattle.rules.specs.Laws.Lists.{tabulate-length}
-use Rattle.rules.specs.Laws.Written.{written-none, written-more, written-over}
+use Rattle.rules.specs.Laws.Written.{written-none, written-more}
 use Rattle.rules.specs.Laws.Truth.{and-first, and-second, and-both}
 use Rattle.rules.specs.Laws.Below.{below-suc, all-same, searched-more, search-stops, search-ends}
 use Rattle.rules.specs.Laws.Count.{TheOther, count-same, count-other}
@@ -22,23 +21,23 @@ use Rattle.rules.specs.Reading.Rows.{Rising}
 use Rattle.rules.specs.Reading.Neighbours.{side-reads}
 use Rattle.rules.specs.Reading.Closed.{across-other}
 use Rattle.table.specs.declared.faces.Face.{Face}
-use Rattle.table.specs.declared.Found.{Found}
-use Rattle.table.specs.declared.Found.the-variants.{At, Nowhere}
+use Rattle.values.specs.declared.Found.{Found}
+use Rattle.values.specs.declared.Found.the-variants.{Nowhere}
 use Rattle.table.specs.Faces.{triangles, faceCorners, cornerOf, faceOf, holdsIds}
-use Rattle.table.specs.Rows.{tableIn, RisingRows}
 use Rattle.rules.specs.Laws.Highest.{highest, highest-is}
 use Rattle.table.specs.Walk.{another}
 use Rattle.rules.specs.Laws.Places.{row-below, place-below}
 use Rattle.table.specs.Places.{faceAt, like, like-self, broken-row, broken-none, face-at, like-holds, holds-like, one-like, like-count}
+use Rattle.rules.specs.Shape.{vertices as vertexTable, triangleTable, edgeTable}
 
 -- what code 7 looks for
 abbrev pub unshared : Table → ℕ → Bool
 unshared t r = not (trianglesShared t r)
 
--- the front of the work words once code 7 was looked for
-unfoldable pub frontAfter : Table → Found → List ℕ
-frontAfter t (At r) = replicate (4 * t .rows) 0
-frontAfter t Nowhere = neighbourList t
+-- Once code 7 was looked for: where no row breaks the rule, the list stands at the front.
+pub record Written (t : Table) (broken : Found) (work₀ work : List ℕ) : Type 0 where
+  pub kept : length work ≡ length work₀
+  pub list : broken ≡ Nowhere → work ≡ written (neighbourList t) work₀
 
 -- ---- place by place
 
@@ -65,7 +64,7 @@ module _ (t : Table) where
 
 -- every corner but c is the triangle that leaves out c
 but-one : (h : ℕ → Bool) (c : ℕ) → c < 4 → allBut 4 h c ≡ (h (cornerOf c 0) && h (cornerOf c 1) && h (cornerOf c 2))
-unfolding allBut all cornerOf faceCorners
+unfolding allBut all cornerOf faceCorners triangleTable edgeTable vertexTable tabulate gather map flatten
 but-one h =
     below-suc P 3 (below-suc P 2 (below-suc P 1 (below-suc P 0 (λ c l. absurd (not-suc-le-zero l)) refl)
     (ap (λ (b : Bool). b && h 2 && h 3) (and-true (h 0)))) (ap (λ (b : Bool). b && h 3) (and-true (h 0 && h 1)))) (and-true (h 0 && h 1 && h 2))
@@ -157,12 +156,6 @@ module _ (t : Table) (four : t .corners ≡ 4) where
           unshared-row place (search-stops (4 * t .rows) place (unsharedAt t) (l .shared) here
           (ap not (ne-eqb (count (4 * t .rows) (like t 0 4 place)) 2 (λ e. off (counted ∙ e)))))
 
-    -- zeros over what was written of the list
-    pub list-cleared : {place : ℕ} {work work₀ work′ : List ℕ} → Listed t place work work₀ → work′ ≡ written (replicate (4 * t .rows) 0) work → work′ ≡ written (replicate (4 * t .rows) 0) work₀
-    list-cleared {place} {work} {work₀} l e =
-        e ∙ ap (written (replicate (4 * t .rows) 0)) (l .front)
-        ∙ written-over (replicate (4 * t .rows) 0) (tabulate place (acrossAt t)) work₀ (rw (length-replicate {A = ℕ} (4 * t .rows) 0, tabulate-length place (acrossAt t)) (l .upto))
-
     pub list-ends : {place : ℕ} {work work₀ : List ℕ} → Listed t place work work₀ → 4 * t .rows ≤ place
         → (none ≡ lowest (t .rows) (unshared t)) × (work ≡ written (neighbourList t) work₀)
     list-ends {place} {work₀ = work₀} l m =
@@ -170,12 +163,3 @@ module _ (t : Table) (four : t .corners ≡ 4) where
           unshared-none (search-ends (4 * t .rows) place (unsharedAt t) (l .shared) m),
           l .front ∙ ap (λ (k : ℕ). written (tabulate k (acrossAt t)) work₀) e ∙ ap (λ (xs : List ℕ). written xs work₀) (sym list-by-places),
         )
-
--- ---- the neighbour list in the work words
-
--- a row section that has passed codes 5 and 7, and the words at whose front its neighbour list stands
-pub record Neighboured (bytes work : List ℕ) : Type 0 where
-  pub rows : RisingRows bytes
-  pub shared : (r : ℕ) → r < length bytes / 16 → trianglesShared (tableIn bytes) r ≡ true
-  pub room : 4 * (length bytes / 16) ≤ length work
-  pub at : (r c : ℕ) → r < length bytes / 16 → c < 4 → getD work (4 * r + c) 0 ≡ across (tableIn bytes) r c

@@ -1,16 +1,20 @@
 // The neighbour list. Code 7.
-use crate::Found;
 use crate::chains::like_places;
 use crate::chains::thread;
-use crate::clear;
+use crate::faces::TRIANGLES;
+use crate::faces::TRIANGLES_AT;
+use crate::faces::corner_table;
+use crate::row_count;
+use values::Found;
 ghost use mathlib.Core.Path.{_≡_};
-ghost use Prim.Native.Nat.{_*_, _/_, _≤_, _<_};
+ghost use Prim.Native.Nat.{_*_, _≤_, _<_};
 ghost use lib.ListN.{length, set};
 ghost use Rattle.rules.specs.Below.{lowest};
-ghost use Rattle.rules.specs.Job.{written};
-ghost use Rattle.table.specs.Rows.{tableIn, placeOf, RisingRows};
+ghost use Rattle.values.specs.Search.{placeOf};
+ghost use Rattle.table.specs.Rows.{rowsIn, tableIn, RisingRows};
+ghost use Rattle.table.specs.Faces.{faceCorners, trianglesAt, trianglesEach};
 ghost use Rattle.table.specs.Places.{Chained};
-ghost use Rattle.table.specs.Triangles.{unshared, frontAfter};
+ghost use Rattle.table.specs.Triangles.{unshared, Written};
 
 // Writes a row's number at a place of the list.
 fn put(work: &mut [u32], place: usize, row: usize)
@@ -21,32 +25,38 @@ fn put(work: &mut [u32], place: usize, row: usize)
 }
 
 // The first row with a triangle that is not in exactly two rows; without one, the neighbour list is written.
-fn neighbours_by(rows: &[u8], head: &[u16; 8192], next: &[u16; 12288], work: &mut [u32]) -> Found
-    requires { ⌜ RisingRows (now rows) × Chained (tableIn (now rows)) 0 4 (now head) (now next) × (4 * (length (now rows) / 16) ≤ length (now work)) ⌝ }
-    ensures { λ r. ⌜ (placeOf r ≡ lowest (length (now (rows .entry)) / 16) (unshared (tableIn (now (rows .entry)))))
-        × (now (work .exit) ≡ written (frontAfter (tableIn (now (rows .entry))) r) (now (work .entry))) ⌝ }
+fn neighbours_by(
+    rows: &[u8],
+    corners: &[u8; 42],
+    head: &[u16; 8192],
+    next: &[u16; 12288],
+    work: &mut [u32],
+) -> Found
+    requires { ⌜ RisingRows (now rows) × Chained (tableIn (now rows)) trianglesAt trianglesEach (now head) (now next) × (4 * rowsIn (now rows) ≤ length (now work)) × (now corners ≡ faceCorners) ⌝ }
+    ensures { λ r. ⌜ (placeOf r ≡ lowest (rowsIn (now (rows .entry))) (unshared (tableIn (now (rows .entry)))))
+        × Written (tableIn (now (rows .entry))) r (now (work .entry)) (now (work .exit)) ⌝ }
 {
-    let end = 4 * (rows.len() / 16);
+    let end = TRIANGLES * row_count(rows);
     let mut place = 0;
     while place < end {
-        let found = like_places(rows, 0, 4, head, next, place);
+        let found = like_places(rows, corners, TRIANGLES_AT, TRIANGLES, head, next, place);
         if found.count != 2 {
-            clear(work, end);
-            return Found::At(place / 4);
+            return Found::At(place / TRIANGLES);
         }
-        put(work, place, found.other / 4);
+        put(work, place, found.other / TRIANGLES);
         place += 1;
     }
     Found::Nowhere
 }
 
 pub(crate) fn neighbours(rows: &[u8], work: &mut [u32]) -> Found
-    requires { ⌜ RisingRows (now rows) × (4 * (length (now rows) / 16) ≤ length (now work)) ⌝ }
-    ensures { λ r. ⌜ (placeOf r ≡ lowest (length (now (rows .entry)) / 16) (unshared (tableIn (now (rows .entry)))))
-        × (now (work .exit) ≡ written (frontAfter (tableIn (now (rows .entry))) r) (now (work .entry))) ⌝ }
+    requires { ⌜ RisingRows (now rows) × (4 * rowsIn (now rows) ≤ length (now work)) ⌝ }
+    ensures { λ r. ⌜ (placeOf r ≡ lowest (rowsIn (now (rows .entry))) (unshared (tableIn (now (rows .entry)))))
+        × Written (tableIn (now (rows .entry))) r (now (work .entry)) (now (work .exit)) ⌝ }
 {
-    let mut head = [(4 * (rows.len() / 16)) as u16; 8192];
+    let corners = corner_table();
+    let mut head = [(TRIANGLES * row_count(rows)) as u16; 8192];
     let mut next = [0u16; 12288];
-    thread(rows, 0, 4, &mut head, &mut next);
-    neighbours_by(rows, &head, &next, work)
+    thread(rows, &corners, TRIANGLES_AT, TRIANGLES, &mut head, &mut next);
+    neighbours_by(rows, &corners, &head, &next, work)
 }

@@ -1,23 +1,23 @@
 // The rows that hold an edge or a vertex, reached from one of them through the neighbour list.
 use crate::across_at;
-use crate::faces::pick;
 use crate::id_at;
-use queue::visit;
-use queue::wide;
+use floods::visit;
+use values::choose;
+use values::from_u16;
 ghost use mathlib.Core.Path.{_≡_};
 ghost use mathlib.Core.Bool.{true};
-ghost use Prim.Native.Nat.{ℕ, _+_, _*_, _/_, _≤_, _<_};
+ghost use Prim.Native.Nat.{ℕ, _+_, _*_, _≤_, _<_};
 ghost use lib.Dec.{eqb};
 ghost use lib.ListN.{length, getD};
 ghost use Rattle.rules.specs.Below.{count};
-ghost use Rattle.table.specs.Rows.{tableIn};
-ghost use Rattle.table.specs.Triangles.{Neighboured};
+ghost use Rattle.table.specs.Rows.{tableIn, rowsIn};
 ghost use Rattle.rules.specs.Reading.Moves.{both, leaves};
+ghost use Rattle.table.specs.Ground.{Grounded};
 ghost use Rattle.table.specs.Holders.{bothJoined, FloodingRows, Spreading};
 
 // One leaves row x through a corner whose id is neither a nor b.
 fn leaves(rows: &[u8], a: usize, b: usize, x: usize, corner: usize) -> bool
-    requires { ⌜ (x < length (now rows) / 16) × (corner < 4) ⌝ }
+    requires { ⌜ (x < rowsIn (now rows)) × (corner < 4) ⌝ }
     ensures { λ r. ⌜ r ≡ leaves (tableIn (now (rows .entry))) a b x corner ⌝ }
 {
     let id = id_at(rows, x, corner);
@@ -40,11 +40,11 @@ fn leave_by(
     corner: usize,
     tail: usize,
 ) -> usize
-    requires { ⌜ Neighboured (now rows) (now neighbours) × (corner < 4) × Spreading (now rows) a b start k i x corner (now stamp) (now queue) tail ⌝ }
+    requires { ⌜ Grounded (now rows) (now neighbours) × (corner < 4) × Spreading (now rows) a b start k i x corner (now stamp) (now queue) tail ⌝ }
     ensures { λ r. ⌜ Spreading (now (rows .entry)) a b start k i x (corner + 1) (now (stamp .exit)) (now (queue .exit)) r ⌝ }
 {
     let across = across_at(neighbours, x, corner);
-    let y = pick(leaves(rows, a, b, x, corner), across, start);
+    let y = choose(leaves(rows, a, b, x, corner), across, start);
     visit(stamp[y] != k, y, k, stamp, queue, tail)
 }
 
@@ -61,10 +61,10 @@ fn spread(
     i: usize,
     tail: usize,
 ) -> usize
-    requires { ⌜ Neighboured (now rows) (now neighbours) × (start < length (now rows) / 16) × (i < tail) × FloodingRows (now rows) a b start k (now stamp) (now queue) (4 * i) tail ⌝ }
+    requires { ⌜ Grounded (now rows) (now neighbours) × (start < rowsIn (now rows)) × (i < tail) × FloodingRows (now rows) a b start k (now stamp) (now queue) (4 * i) tail ⌝ }
     ensures { λ r. ⌜ FloodingRows (now (rows .entry)) a b start k (now (stamp .exit)) (now (queue .exit)) (4 * (i + 1)) r ⌝ }
 {
-    let x = wide(queue[i]);
+    let x = from_u16(queue[i]);
     let first = leave_by(
         rows,
         neighbours,
@@ -134,11 +134,11 @@ pub(crate) fn flood(
     stamp: &mut [u16; 2048],
     queue: &mut [u16; 2048],
 ) -> usize
-    requires { ⌜ Neighboured (now rows) (now neighbours) × (start < length (now rows) / 16) × (both (tableIn (now rows)) a b start ≡ true)
-        × (length (now stamp) ≡ 2048) × (length (now queue) ≡ 2048) × ((y : ℕ) → y < length (now rows) / 16 → getD (now stamp) y 0 < k) ⌝ }
-    ensures { λ r. ⌜ (eqb r (count (length (now (rows .entry)) / 16) (both (tableIn (now (rows .entry))) a b)) ≡ bothJoined (tableIn (now (rows .entry))) a b)
+    requires { ⌜ Grounded (now rows) (now neighbours) × (start < rowsIn (now rows)) × (both (tableIn (now rows)) a b start ≡ true)
+        × (length (now stamp) ≡ 2048) × (length (now queue) ≡ 2048) × ((y : ℕ) → y < rowsIn (now rows) → getD (now stamp) y 0 < k) ⌝ }
+    ensures { λ r. ⌜ (eqb r (count (rowsIn (now (rows .entry))) (both (tableIn (now (rows .entry))) a b)) ≡ bothJoined (tableIn (now (rows .entry))) a b)
         × (length (now (stamp .exit)) ≡ 2048) × (length (now (queue .exit)) ≡ 2048)
-        × ((y : ℕ) → y < length (now (rows .entry)) / 16 → getD (now (stamp .exit)) y 0 ≤ k) ⌝ }
+        × ((y : ℕ) → y < rowsIn (now (rows .entry)) → getD (now (stamp .exit)) y 0 ≤ k) ⌝ }
 {
     stamp[start] = k;
     queue[0] = start as u16;

@@ -1,25 +1,29 @@
 // Edge rule and vertex rule. Codes 8 and 9.
-use crate::Found;
 use crate::chains::first_like;
 use crate::chains::like_places;
 use crate::chains::thread;
+use crate::faces::corner_table;
 use crate::faces::face_at;
 use crate::faces::row_of;
 use crate::flood::flood;
+use crate::row_count;
+use values::Found;
 ghost use mathlib.Core.Path.{_≡_};
 ghost use mathlib.Core.Bool.{true};
-ghost use Prim.Native.Nat.{ℕ, _+_, _*_, _/_, _<_};
-ghost use lib.ListN.{length};
+ghost use Prim.Native.Nat.{ℕ, _+_, _*_, _<_};
 ghost use Rattle.rules.specs.Below.{lowest};
-ghost use Rattle.table.specs.Rows.{tableIn, placeOf};
+ghost use Rattle.table.specs.Rows.{tableIn, rowsIn};
 ghost use Rattle.table.specs.Places.{faceAt, Chained};
-ghost use Rattle.table.specs.Triangles.{Neighboured};
+ghost use Rattle.table.specs.Ground.{Grounded};
+ghost use Rattle.table.specs.Faces.{faceCorners};
 ghost use Rattle.table.specs.Holders.{Joint, idsJoined, unjoined, Scratch};
+ghost use Rattle.values.specs.Search.{placeOf};
 
 // The rows that hold the face at a place are joined. Each face is looked at once, at its first place: the earlier ones are joined.
 fn face_joined(
     rows: &[u8],
     neighbours: &[u32],
+    corners: &[u8; 42],
     base: usize,
     m: usize,
     head: &[u16; 8192],
@@ -28,16 +32,16 @@ fn face_joined(
     queue: &mut [u16; 2048],
     place: usize,
 ) -> bool
-    requires { ⌜ Neighboured (now rows) (now neighbours) × Joint base m × Chained (tableIn (now rows)) base m (now head) (now next)
-        × Scratch (length (now rows) / 16) place (now stamp) (now queue) × (place < m * (length (now rows) / 16))
-        × ((q : ℕ) → q < place → idsJoined (tableIn (now rows)) (faceAt (tableIn (now rows)) base m q) ≡ true) ⌝ }
+    requires { ⌜ Grounded (now rows) (now neighbours) × Joint base m × Chained (tableIn (now rows)) base m (now head) (now next)
+        × Scratch (rowsIn (now rows)) place (now stamp) (now queue) × (place < m * rowsIn (now rows))
+        × ((q : ℕ) → q < place → idsJoined (tableIn (now rows)) (faceAt (tableIn (now rows)) base m q) ≡ true) × (now corners ≡ faceCorners) ⌝ }
     ensures { λ r. ⌜ (r ≡ idsJoined (tableIn (now (rows .entry))) (faceAt (tableIn (now (rows .entry))) base m place))
-        × Scratch (length (now (rows .entry)) / 16) (place + 1) (now (stamp .exit)) (now (queue .exit)) ⌝ }
+        × Scratch (rowsIn (now (rows .entry))) (place + 1) (now (stamp .exit)) (now (queue .exit)) ⌝ }
 {
-    if !first_like(rows, base, m, head, next, place) {
+    if !first_like(rows, corners, base, m, head, next, place) {
         return true;
     }
-    let face = face_at(rows, base, m, place);
+    let face = face_at(rows, corners, base, m, place);
     let reached = flood(
         rows,
         neighbours,
@@ -48,13 +52,14 @@ fn face_joined(
         stamp,
         queue,
     );
-    let found = like_places(rows, base, m, head, next, place);
+    let found = like_places(rows, corners, base, m, head, next, place);
     reached == found.count
 }
 
 fn broken_by(
     rows: &[u8],
     neighbours: &[u32],
+    corners: &[u8; 42],
     base: usize,
     m: usize,
     head: &[u16; 8192],
@@ -62,14 +67,14 @@ fn broken_by(
     stamp: &mut [u16; 2048],
     queue: &mut [u16; 2048],
 ) -> Found
-    requires { ⌜ Neighboured (now rows) (now neighbours) × Joint base m × Chained (tableIn (now rows)) base m (now head) (now next)
-        × Scratch (length (now rows) / 16) 0 (now stamp) (now queue) ⌝ }
-    ensures { λ r. ⌜ placeOf r ≡ lowest (length (now (rows .entry)) / 16) (unjoined (tableIn (now (rows .entry))) base m) ⌝ }
+    requires { ⌜ Grounded (now rows) (now neighbours) × Joint base m × Chained (tableIn (now rows)) base m (now head) (now next)
+        × Scratch (rowsIn (now rows)) 0 (now stamp) (now queue) × (now corners ≡ faceCorners) ⌝ }
+    ensures { λ r. ⌜ placeOf r ≡ lowest (rowsIn (now (rows .entry))) (unjoined (tableIn (now (rows .entry))) base m) ⌝ }
 {
-    let end = m * (rows.len() / 16);
+    let end = m * row_count(rows);
     let mut place = 0;
     while place < end {
-        if !face_joined(rows, neighbours, base, m, head, next, stamp, queue, place) {
+        if !face_joined(rows, neighbours, corners, base, m, head, next, stamp, queue, place) {
             return Found::At(row_of(place, m));
         }
         place += 1;
@@ -79,17 +84,19 @@ fn broken_by(
 
 // The first row with an edge, or with a vertex, whose rows are not joined.
 pub(crate) fn broken_face(rows: &[u8], neighbours: &[u32], base: usize, m: usize) -> Found
-    requires { ⌜ Neighboured (now rows) (now neighbours) × Joint base m ⌝ }
-    ensures { λ r. ⌜ placeOf r ≡ lowest (length (now (rows .entry)) / 16) (unjoined (tableIn (now (rows .entry))) base m) ⌝ }
+    requires { ⌜ Grounded (now rows) (now neighbours) × Joint base m ⌝ }
+    ensures { λ r. ⌜ placeOf r ≡ lowest (rowsIn (now (rows .entry))) (unjoined (tableIn (now (rows .entry))) base m) ⌝ }
 {
-    let mut head = [(m * (rows.len() / 16)) as u16; 8192];
+    let corners = corner_table();
+    let mut head = [(m * row_count(rows)) as u16; 8192];
     let mut next = [0u16; 12288];
-    thread(rows, base, m, &mut head, &mut next);
+    thread(rows, &corners, base, m, &mut head, &mut next);
     let mut stamp = [0u16; 2048];
     let mut queue = [0u16; 2048];
     broken_by(
         rows,
         neighbours,
+        &corners,
         base,
         m,
         &head,

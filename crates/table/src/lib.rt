@@ -8,26 +8,26 @@ mod rows;
 mod view;
 
 use across::neighbours;
+use faces::EDGES;
+use faces::EDGES_AT;
+use faces::VERTICES;
+use faces::VERTICES_AT;
 use joined::broken_face;
 use rows::bad_row;
 use rows::out_of_order;
+use values::Found;
+use values::from_u32;
 use view::id_in;
 use view::view_of;
 ghost use mathlib.Core.Path.{_≡_};
-ghost use Prim.Native.Nat.{_+_, _*_, _/_, _≤_, _<_};
+ghost use Prim.Native.Nat.{ℕ, _+_, _*_, _≤_, _<_};
 ghost use lib.ListN.{length, getD, replicate};
 ghost use Rattle.rules.specs.First.{firstMatch};
-ghost use Rattle.rules.specs.Job.{written, tableTests};
-ghost use Rattle.rules.specs.Table.{holds};
-ghost use Rattle.table.specs.Rows.{idIn, tableIn, RisingRows};
-ghost use Rattle.table.specs.Triangles.{Neighboured};
-ghost use Rattle.table.specs.Closed.{verdictOf, joinedTests, sharedTests, frontOf, toClear};
-
-// The first place of a search, or none.
-pub enum Found {
-    At(usize),
-    Nowhere,
-}
+ghost use Rattle.rules.specs.Job.{written, tableTests, mostRows};
+ghost use Rattle.rules.specs.Table.{holds, neighbourList};
+ghost use Rattle.table.specs.Rows.{rowsIn, idIn, tableIn, OrderedRows};
+ghost use Rattle.table.specs.Ground.{Grounded};
+ghost use Rattle.table.specs.Closed.{verdictOf, joinedTests, sharedTests, leftOf};
 
 // The first rule that the table breaks, with the lowest row that breaks it.
 pub enum Broken {
@@ -44,15 +44,22 @@ pub enum Broken {
 
 // The id of a row at a corner, through the view. Every id of a table is read here.
 pub fn id_at(rows: &[u8], row: usize, corner: usize) -> usize
-    requires { ⌜ (row < length (now rows) / 16) × (corner < 4) ⌝ }
+    requires { ⌜ (row < rowsIn (now rows)) × (corner < 4) ⌝ }
     ensures { λ r. ⌜ r ≡ idIn (now (rows .entry)) row corner ⌝ }
 {
     id_in(view_of(rows), row, corner)
 }
 
+// How many rows a section has. Only this function and `id_at` know how wide a row is.
+pub fn row_count(rows: &[u8]) -> usize
+    ensures { λ r. ⌜ r ≡ rowsIn (now (rows .entry)) ⌝ }
+{
+    rows.len() / 16
+}
+
 // An id is one of a row's.
 pub fn holds(rows: &[u8], row: usize, id: usize) -> bool
-    requires { ⌜ row < length (now rows) / 16 ⌝ }
+    requires { ⌜ row < rowsIn (now rows) ⌝ }
     ensures { λ r. ⌜ r ≡ holds (tableIn (now (rows .entry))) row id ⌝ }
 {
     (id_at(rows, row, 0) == id)
@@ -66,84 +73,70 @@ pub fn across_at(neighbours: &[u32], row: usize, corner: usize) -> usize
     requires { ⌜ 4 * row + corner < length (now neighbours) ⌝ }
     ensures { λ r. ⌜ r ≡ getD (now (neighbours .entry)) (4 * row + corner) 0 ⌝ }
 {
-    wide(neighbours[4 * row + corner])
+    from_u32(neighbours[4 * row + corner])
 }
 
-// A word by value: one that is cast where it is read would ask that it fits.
-fn wide(x: u32) -> usize
-    ensures { λ r. ⌜ r ≡ x ⌝ }
-{
-    x as usize
-}
-
-// Leaves zero in the first `n` words.
-pub fn clear(work: &mut [u32], n: usize)
-    requires { ⌜ n ≤ length (now work) ⌝ }
-    ensures { λ _. ⌜ now (work .exit) ≡ written (replicate n 0) (now (work .entry)) ⌝ }
+// Leaves zero in every word.
+pub fn clear(work: &mut [u32])
+    ensures { λ _. ⌜ now (work .exit) ≡ replicate (length (now (work .entry))) 0 ⌝ }
 {
     let mut i = 0;
-    while i < n {
+    while i < work.len() {
         work[i] = 0;
         i += 1;
     }
 }
 
-fn check_joined(rows: &[u8], neighbours: &[u32]) -> Broken
-    requires { ⌜ Neighboured (now rows) (now neighbours) ⌝ }
-    ensures { λ r. ⌜ verdictOf r ≡ firstMatch 8 (joinedTests (tableIn (now (rows .entry)))) ⌝ }
+// Codes 8 and 9.
+fn check_joined(rows: &[u8], work: &mut [u32]) -> Broken
+    requires { ⌜ Grounded (now rows) (now work) ⌝ }
+    ensures { λ r. ⌜ (verdictOf r ≡ firstMatch 8 (joinedTests (tableIn (now (rows .entry)))))
+        × (now (work .exit) ≡ leftOf r (now (work .entry))) ⌝ }
 {
-    match broken_face(rows, neighbours, 4, 6) {
-        Found::At(row) => Broken::Edge(row),
-        Found::Nowhere => match broken_face(rows, neighbours, 10, 4) {
-            Found::At(row) => Broken::Vertex(row),
+    match broken_face(rows, work, EDGES_AT, EDGES) {
+        Found::At(row) => {
+            clear(work);
+            Broken::Edge(row)
+        }
+        Found::Nowhere => match broken_face(rows, work, VERTICES_AT, VERTICES) {
+            Found::At(row) => {
+                clear(work);
+                Broken::Vertex(row)
+            }
             Found::Nowhere => Broken::Nothing,
         },
     }
 }
 
-// A refusal clears n words.
-fn to_clear(broken: Broken, n: usize) -> usize
-    ensures { λ r. ⌜ r ≡ toClear broken n ⌝ }
-{
-    match broken {
-        Broken::Nothing => 0,
-        Broken::Row(_) => n,
-        Broken::Order(_) => n,
-        Broken::Triangle(_) => n,
-        Broken::Edge(_) => n,
-        Broken::Vertex(_) => n,
-    }
-}
-
+// Codes 7 to 9.
 fn check_shared(rows: &[u8], work: &mut [u32]) -> Broken
-    requires { ⌜ RisingRows (now rows) × (4 * (length (now rows) / 16) ≤ length (now work)) ⌝ }
+    requires { ⌜ ((ids : ℕ) × OrderedRows (now rows) ids) × (4 * rowsIn (now rows) ≤ length (now work)) ⌝ }
     ensures { λ r. ⌜ (verdictOf r ≡ firstMatch 7 (sharedTests (tableIn (now (rows .entry)))))
-        × (now (work .exit) ≡ written (frontOf (tableIn (now (rows .entry))) r) (now (work .entry))) ⌝ }
+        × (now (work .exit) ≡ leftOf r (written (neighbourList (tableIn (now (rows .entry)))) (now (work .entry)))) ⌝ }
 {
     match neighbours(rows, work) {
-        Found::At(row) => Broken::Triangle(row),
-        Found::Nowhere => {
-            let broken = check_joined(rows, work);
-            clear(work, to_clear(broken, 4 * (rows.len() / 16)));
-            broken
+        Found::At(row) => {
+            clear(work);
+            Broken::Triangle(row)
         }
+        Found::Nowhere => check_joined(rows, work),
     }
 }
 
-// The first of the refusals 5 to 9. The front of `work` is left with the neighbour list, or cleared.
+// The first of the refusals 5 to 9. A closed table leaves its neighbour list at the front of `work`, a refusal leaves it all zero.
 pub fn check(rows: &[u8], ids: usize, work: &mut [u32]) -> Broken
-    requires { ⌜ (length (now rows) / 16 ≤ 2048) × (4 * (length (now rows) / 16) ≤ length (now work)) ⌝ }
+    requires { ⌜ (rowsIn (now rows) ≤ mostRows) × (4 * rowsIn (now rows) ≤ length (now work)) ⌝ }
     ensures { λ r. ⌜ (verdictOf r ≡ firstMatch 5 (tableTests (tableIn (now (rows .entry))) ids))
-        × (now (work .exit) ≡ written (frontOf (tableIn (now (rows .entry))) r) (now (work .entry))) ⌝ }
+        × (now (work .exit) ≡ leftOf r (written (neighbourList (tableIn (now (rows .entry)))) (now (work .entry)))) ⌝ }
 {
     match bad_row(rows, ids) {
         Found::At(row) => {
-            clear(work, 4 * (rows.len() / 16));
+            clear(work);
             Broken::Row(row)
         }
         Found::Nowhere => match out_of_order(rows) {
             Found::At(row) => {
-                clear(work, 4 * (rows.len() / 16));
+                clear(work);
                 Broken::Order(row)
             }
             Found::Nowhere => check_shared(rows, work),

@@ -1,14 +1,16 @@
 // Rows one by one, and in their order. Codes 5 and 6.
-use crate::Found;
 use crate::id_at;
+use crate::row_count;
+use values::Found;
 ghost use mathlib.Core.Path.{_≡_};
 ghost use mathlib.Core.Bool.{_&&_, _||_};
-ghost use Prim.Native.Nat.{_/_, _<_};
-ghost use lib.ListN.{length};
+ghost use Prim.Native.Nat.{_<_};
 ghost use lib.Dec.{eqb, ltb};
 ghost use Rattle.rules.specs.Below.{lowest};
 ghost use Rattle.rules.specs.Table.{rising, idsBelow, before};
-ghost use Rattle.table.specs.Rows.{tableIn, placeOf, badRow, notAfter};
+ghost use Rattle.table.specs.Rows.{tableIn, rowsIn};
+ghost use Rattle.values.specs.Search.{placeOf};
+ghost use Rattle.rules.specs.Job.{badRow, notAfter};
 
 // Four ids rise and are below `ids`.
 fn four_rise(a: usize, b: usize, c: usize, d: usize, ids: usize) -> bool
@@ -18,7 +20,7 @@ fn four_rise(a: usize, b: usize, c: usize, d: usize, ids: usize) -> bool
 }
 
 fn is_row(rows: &[u8], ids: usize, row: usize) -> bool
-    requires { ⌜ row < length (now rows) / 16 ⌝ }
+    requires { ⌜ row < rowsIn (now rows) ⌝ }
     ensures { λ r. ⌜ r ≡ (rising (tableIn (now (rows .entry))) row && idsBelow (tableIn (now (rows .entry))) ids row) ⌝ }
 {
     four_rise(
@@ -32,9 +34,9 @@ fn is_row(rows: &[u8], ids: usize, row: usize) -> bool
 
 // The first row whose ids do not rise, or that has an id not below `ids`.
 pub(crate) fn bad_row(rows: &[u8], ids: usize) -> Found
-    ensures { λ r. ⌜ placeOf r ≡ lowest (length (now (rows .entry)) / 16) (badRow (tableIn (now (rows .entry))) ids) ⌝ }
+    ensures { λ r. ⌜ placeOf r ≡ lowest (rowsIn (now (rows .entry))) (badRow (tableIn (now (rows .entry))) ids) ⌝ }
 {
-    let n = rows.len() / 16;
+    let n = row_count(rows);
     let mut row = 0;
     while row < n {
         if !is_row(rows, ids, row) {
@@ -65,7 +67,7 @@ fn four_before(
 }
 
 fn row_before(rows: &[u8], s: usize, r: usize) -> bool
-    requires { ⌜ (s < length (now rows) / 16) × (r < length (now rows) / 16) ⌝ }
+    requires { ⌜ (s < rowsIn (now rows)) × (r < rowsIn (now rows)) ⌝ }
     ensures { λ b. ⌜ b ≡ before (tableIn (now (rows .entry))) s r ⌝ }
 {
     four_before(
@@ -82,9 +84,9 @@ fn row_before(rows: &[u8], s: usize, r: usize) -> bool
 
 // The first row that is not after the one before it.
 pub(crate) fn out_of_order(rows: &[u8]) -> Found
-    ensures { λ r. ⌜ placeOf r ≡ lowest (length (now (rows .entry)) / 16) (notAfter (tableIn (now (rows .entry)))) ⌝ }
+    ensures { λ r. ⌜ placeOf r ≡ lowest (rowsIn (now (rows .entry))) (notAfter (tableIn (now (rows .entry)))) ⌝ }
 {
-    let n = rows.len() / 16;
+    let n = row_count(rows);
     let mut row = 1;
     while row < n {
         if !row_before(rows, row - 1, row) {

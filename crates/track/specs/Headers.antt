@@ -5,23 +5,27 @@ use mathlib.Core.Bool.{Bool, true, false}
 use mathlib.Core.List.{List, _++_}
 use Prim.Native.Nat.{ℕ, _≤_, _<_}
 use native.Mathlib.Omega.{arith}
-use lib.Dec.{leb, lit<}
-use lib.ListN.{length}
+use native.Mathlib.Nat.{le-refl}
+use lib.Dec.{leb, lit<, lit≤}
+use lib.ListN.{length, take, drop}
+use lib.Seq.{length-take-le}
 use borrow.Author.Tests.{ne-eqb}
 use Rattle.rules.specs.Below.{found}
+use Rattle.rules.specs.Table.{tableOf, neighbourList}
 use Rattle.rules.specs.First.{Test, given, Verdict, firstMatch}
-use Rattle.rules.specs.Job.{track, headerOf, withinLimits, laidOut, shortRooms, roomShort, mostRows, jobOf, layoutTests, roomTests, sectionTests, jobTests, Lent, refused, Result, verdictOn, run}
+use Rattle.rules.specs.Job.{track, headerOf, withinLimits, laidOut, shortRooms, roomShort, mostRows, workRoom, rowsTable, jobOf, layoutTests, roomTests, sectionTests, jobTests, Lent, refused, Result, verdictOn, run}
 use Rattle.rules.specs.Laws.Truth.{not-both}
 use Rattle.rules.specs.Laws.First.{match-append, match-front, match-here, match-later}
+use Rattle.rules.specs.Reading.Closed.{list-length}
 use Rattle.rules.specs.Reading.Codes.{limits-read, laid-out-reads, RoomShort, room-reads}
 use Rattle.job.specs.declared.Header.{Header}
 use Rattle.job.specs.declared.Reading.{Reading}
 use Rattle.job.specs.declared.Reading.the-variants.{Laid}
 use Rattle.job.specs.Reading.{meant, header, codeOf, readingOf, reading-verdict, laid-header}
 use Rattle.track.specs.declared.Outcome.{Outcome}
-use Rattle.track.specs.Outcomes.{result, refusal}
+use Rattle.track.specs.Outcomes.{lent, result, refusal}
 use Rattle.track.specs.Stages as stages
-use Rattle.track.specs.Stages.{decided, run-decided, fromTable}
+use Rattle.track.specs.Stages.{decided, run-decided, fromTable, withRest, front-decides}
 
 module _ (job : List ℕ) (buffers : Lent) where
   abbrev rest : List Test
@@ -67,7 +71,19 @@ module _ (job : List ℕ) (buffers : Lent) where
           rw told (early {v = record { code = 4; place = 0 }} (from-room ∙ match-here 4 _ _ 0 (ap (λ (b : Bool). found b 0) (sym short-is ∙ on))) (λ e. omega arith) refl)
 
       module _ (off : short ≡ false) where
-        pub laid-out : stages.Laid h job buffers
+        enough : {n m : ℕ} → (n < m → RoomShort track (headerOf job) buffers) → m ≤ n
+        enough {n} {m} why =
+            let no : n < m → ⊥ = λ (x : n < m). not-both (room-reads track (headerOf job) buffers .1 (why x)) (sym short-is ∙ off) in
+            omega (arith, no)
+
+        -- the buffers, of work only what is needed
+        abbrev pub needed : Lent
+        needed = lent (buffers .answers) (buffers .finalMarks) (buffers .triangles) (take (workRoom track (meant h)) (buffers .work))
+
+        pub work-fits : workRoom track (meant h) ≤ length (buffers .work)
+        work-fits = rw (facts .0) (enough inr)
+
+        pub laid-out : stages.Laid h job needed
         laid-out =
             let (((_, ids), (_, rows)), (_, proposals)) = limits-read track (headerOf job) .0 (facts .1) in
             let (((_, six), _), whole) = laid-out-reads track (headerOf job) job .0 (facts .2) in
@@ -80,18 +96,19 @@ module _ (job : List ℕ) (buffers : Lent) where
               answer-room = rw (facts .0) (enough (λ x. inl (inl (inl x))));
               mark-room = rw (facts .0) (enough (λ x. inl (inl (inr x))));
               triangle-room = rw (facts .0) (enough (λ x. inl (inr x)));
-              work-room = rw (facts .0) (enough inr);
+              work-room = length-take-le (workRoom track (meant h)) (buffers .work) work-fits;
             }
-          where
-            enough : {n m : ℕ} → (n < m → RoomShort track (headerOf job) buffers) → m ≤ n
-            enough {n} {m} why =
-                let no : n < m → ⊥ = λ (x : n < m). not-both (room-reads track (headerOf job) buffers .1 (why x)) (sym short-is ∙ off) in
-                omega (arith, no)
 
-        pub room-enough : {r : Result} → r ≡ fromTable h (jobOf track job) buffers → r ≡ run track job buffers
+        list-fits : length (neighbourList (jobOf track job .table)) ≤ workRoom track (meant h)
+        unfolding jobOf rowsTable tableOf
+        list-fits = rw (list-length (jobOf track job .table)) (rw (facts .0) (le-refl (workRoom track (headerOf job))))
+
+        pub room-enough : {r : Result} → r ≡ fromTable h (jobOf track job) needed → withRest (drop (workRoom track (meant h)) (buffers .work)) r ≡ run track job buffers
         unfolding roomTests given found
         room-enough e =
-            e ∙ ap (λ (x : Header). fromTable x (jobOf track job) buffers) (facts .0)
+            ap (withRest (drop (workRoom track (meant h)) (buffers .work))) e
+            ∙ front-decides h (sectionTests (jobOf track job)) 5 (lit≤ tt) (jobOf track job) list-fits (buffers .answers) (buffers .finalMarks) (buffers .triangles) (buffers .work) work-fits
+            ∙ ap (λ (x : Header). fromTable x (jobOf track job) buffers) (facts .0)
             ∙ ap (λ (v : Verdict). decided (headerOf job) v (jobOf track job) buffers)
             (sym (from-room ∙ match-later 4 _ _ (ap (λ (b : Bool). found b 0) (sym short-is ∙ off))))
             ∙ run-decided job buffers

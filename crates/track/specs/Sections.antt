@@ -7,7 +7,7 @@ use Prim.Native.Nat.{ℕ, _+_, _-_, _*_, _/_, _≤_}
 use native.Mathlib.Nat.{le-refl}
 use native.Mathlib.Omega.{arith}
 use lib.Dec.{leb, lit<, lit≤}
-use lib.ListN.{length, take, drop, replicate, length-drop, length-replicate}
+use lib.ListN.{length, getD, take, drop, replicate, length-drop, length-replicate}
 use lib.Seq.{length-take-le}
 use borrow.Author.Tests.{ne-eqb}
 use Rattle.rules.specs.Below.{tabulate}
@@ -17,48 +17,48 @@ use Rattle.rules.specs.Job as rules
 use Rattle.rules.specs.Job.{track, rowsAt, marksAt, proposalsAt, section, rowsTable, proposalIn, Job, jobOf, Lent, workRoom, written, tableTests, markTests, Result, accepted, refused}
 use Rattle.rules.specs.Laws.Truth.{same-or-not}
 use Rattle.rules.specs.Laws.First.{match-append, match-front}
-use Rattle.rules.specs.Laws.Written.{written-length, written-over}
-use Rattle.rules.specs.Reading.Closed.{Closed, list-length}
+use Rattle.rules.specs.Laws.Written.{written-length, written-at, written-over}
+use Rattle.rules.specs.Reading.Closed.{Closed, list-length, list-at}
 use Rattle.rules.specs.Reading.Codes.{closed-reads}
 use Rattle.job.specs.declared.Header.{Header}
 use Rattle.job.specs.Reading.{meant}
 use Rattle.table.specs.declared.Broken.{Broken}
 use Rattle.table.specs.declared.Broken.the-variants.{Nothing, Row, Order, Triangle, Edge, Vertex}
-use Rattle.table.specs.Rows.{tableIn, table-in}
-use Rattle.table.specs.Closed.{verdictOf, frontOf}
+use Rattle.table.specs.Rows.{rowsIn, tableIn, table-in}
+use Rattle.table.specs.Closed.{verdictOf, leftOf}
 use Rattle.growth.specs.Answers.{proposalsIn}
 use Rattle.track.specs.declared.Outcome.{Outcome}
 use Rattle.track.specs.Outcomes.{lent, result, refusal}
-use Rattle.track.specs.Stages.{decided, jobIn, fromTable, fromMarks, late, Standing, Laid}
+use Rattle.track.specs.Stages.{decided, jobIn, fromTable, fromMarks, late, all-zero, Ready, Laid}
 
 section-length : (job : List ℕ) (start size : ℕ) → start + size ≤ length job → length (section job start size) ≡ size
 section-length job start size l = length-take-le size (drop start job) (rw (length-drop start job) (omega arith))
 
--- a refused table leaves zeros at the front, a closed one its neighbour list
-front-refused : (t : Table) (b : Broken) → verdictOf b .code ≢ 0 → frontOf t b ≡ replicate (4 * t .rows) 0
-unfolding frontOf
-front-refused t Nothing ne = absurd (ne refl)
-front-refused t (Row r) ne = refl
-front-refused t (Order r) ne = refl
-front-refused t (Triangle r) ne = refl
-front-refused t (Edge r) ne = refl
-front-refused t (Vertex r) ne = refl
+-- a refused table leaves zeros, a closed one what was written
+left-refused : (b : Broken) (work : List ℕ) → verdictOf b .code ≢ 0 → leftOf b work ≡ replicate (length work) 0
+unfolding leftOf
+left-refused Nothing work ne = absurd (ne refl)
+left-refused (Row r) work ne = refl
+left-refused (Order r) work ne = refl
+left-refused (Triangle r) work ne = refl
+left-refused (Edge r) work ne = refl
+left-refused (Vertex r) work ne = refl
 
-front-closed : (t : Table) (b : Broken) → verdictOf b .code ≡ 0 → frontOf t b ≡ neighbourList t
-unfolding frontOf
-front-closed t Nothing z = refl
-front-closed t (Row r) z = absurd (omega arith)
-front-closed t (Order r) z = absurd (omega arith)
-front-closed t (Triangle r) z = absurd (omega arith)
-front-closed t (Edge r) z = absurd (omega arith)
-front-closed t (Vertex r) z = absurd (omega arith)
+left-closed : (b : Broken) (work : List ℕ) → verdictOf b .code ≡ 0 → leftOf b work ≡ work
+unfolding leftOf
+left-closed Nothing work z = refl
+left-closed (Row r) work z = absurd (omega arith)
+left-closed (Order r) work z = absurd (omega arith)
+left-closed (Triangle r) work z = absurd (omega arith)
+left-closed (Edge r) work z = absurd (omega arith)
+left-closed (Vertex r) work z = absurd (omega arith)
 
 -- what was written to work before is written over
 same-left : (h : rules.Header) (tests : List Test) (code : ℕ) → 5 ≤ code → (job : Job) (answers final triangles work work₀ : List ℕ)
-    → h .rows ≡ job .table .rows → job .table .corners ≡ 4 → work ≡ written (neighbourList (job .table)) work₀
+    → workRoom track h ≡ length (neighbourList (job .table)) → work ≡ written (neighbourList (job .table)) work₀
     → decided h (firstMatch code tests) job (lent answers final triangles work) ≡ decided h (firstMatch code tests) job (lent answers final triangles work₀)
 unfolding decided accepted refused
-same-left h tests code l job answers final triangles work work₀ eh four ew =
+same-left h tests code l job answers final triangles work work₀ fits ew =
     ⊎-elim (λ (z : firstMatch code tests .code ≡ 0). rw (z, ew, written-over list list work₀ (le-refl (length list))))
     (λ (ne : firstMatch code tests .code ≡ 0 → ⊥). rw (ne-eqb (firstMatch code tests .code) 0 ne, late code l tests ne, ew, over)) (same-or-not (firstMatch code tests .code) 0)
   where
@@ -66,7 +66,7 @@ same-left h tests code l job answers final triangles work work₀ eh four ew =
     list = neighbourList (job .table)
 
     over : written (replicate (workRoom track h) 0) (written list work₀) ≡ written (replicate (workRoom track h) 0) work₀
-    over = written-over (replicate (workRoom track h) 0) list work₀ (rw (list-length (job .table), four, eh, length-replicate {A = ℕ} (4 * job .table .rows) 0) (le-refl (4 * job .table .rows)))
+    over = written-over (replicate (workRoom track h) 0) list work₀ (rw (length-replicate {A = ℕ} (workRoom track h) 0, fits) (le-refl (length list)))
 
 module _ {h : Header} {job : List ℕ} {buffers : Lent} (l : Laid h job buffers) {a b c : ℕ} (ea : a ≡ rowsAt) (eb : b ≡ marksAt track (meant h)) (ec : c ≡ proposalsAt track (meant h)) where
   -- the sections, as they are cut out
@@ -91,7 +91,8 @@ module _ {h : Header} {job : List ℕ} {buffers : Lent} (l : Laid h job buffers)
   rows-long : length rows ≡ 16 * h .rows
   rows-long = ap length rows-is ∙ section-length job rowsAt (16 * h .rows) (omega (arith, l .long))
 
-  pub counted : length rows / 16 ≡ h .rows
+  pub counted : rowsIn rows ≡ h .rows
+  unfolding rowsIn
   counted = omega (arith, rows-long)
 
   proposals-long : length proposals ≡ 8 * h .proposals
@@ -120,7 +121,13 @@ module _ {h : Header} {job : List ℕ} {buffers : Lent} (l : Laid h job buffers)
       proposals-are = ap₂ (λ (n : ℕ) (xs : List ℕ). tabulate n (proposalIn xs)) proposals-counted proposals-is
 
   module _ (broken : Broken) (found : verdictOf broken ≡ firstMatch 5 (tableTests (tableIn rows) (h .ids))) {o : Outcome} (told : o ≡ refusal (verdictOf broken))
-      {work : List ℕ} (left : work ≡ written (frontOf (tableIn rows) broken) (buffers .work)) where
+      {work : List ℕ} (left : work ≡ leftOf broken (written (neighbourList (tableIn rows)) (buffers .work))) where
+    list-fits : length (neighbourList (tableIn rows)) ≡ workRoom track (meant h)
+    list-fits = list-length (tableIn rows) ∙ ap (λ (n : ℕ). 4 * n) counted
+
+    kept : length (written (neighbourList (tableIn rows)) (buffers .work)) ≡ length (buffers .work)
+    kept = written-length (neighbourList (tableIn rows)) (buffers .work) (rw (list-fits, l .work-room) (le-refl (workRoom track (meant h))))
+
     same-code : o .code ≡ verdictOf broken .code
     same-code = ap (λ (x : Outcome). x .code) told
 
@@ -135,8 +142,9 @@ module _ {h : Header} {job : List ℕ} {buffers : Lent} (l : Laid h job buffers)
           ne-eqb (verdictOf broken .code) 0 off,
           small,
           left,
-          front-refused (tableIn rows) broken off,
-          counted,
+          left-refused broken (written (neighbourList (tableIn rows)) (buffers .work)) off,
+          kept,
+          all-zero h (buffers .work) (l .work-room),
         ))
       where
         off : verdictOf broken .code ≢ 0
@@ -150,28 +158,29 @@ module _ {h : Header} {job : List ℕ} {buffers : Lent} (l : Laid h job buffers)
       is-closed = closed-reads (tableIn rows) (h .ids) 5 (lit< tt) .0 (ap (λ (v : Verdict). v .code) (sym found) ∙ sym same-code ∙ z)
 
       listed : work ≡ written (neighbourList (tableIn rows)) (buffers .work)
-      listed = left ∙ ap (λ (xs : List ℕ). written xs (buffers .work)) (front-closed (tableIn rows) broken (sym same-code ∙ z))
+      listed = left ∙ left-closed broken (written (neighbourList (tableIn rows)) (buffers .work)) (sym same-code ∙ z)
 
-      list-fits : length (neighbourList (tableIn rows)) ≤ length (buffers .work)
-      list-fits = rw (list-length (tableIn rows), counted) (l .work-room)
+      pub work-long : length work ≡ workRoom track (meant h)
+      work-long = ap length listed ∙ kept ∙ l .work-room
 
-      pub standing : Standing h rows marks proposals (lent (buffers .answers) (buffers .finalMarks) (buffers .triangles) work)
-      standing = record {
-        grounded = record {
-          idCount = h .ids;
-          closed = is-closed;
+      pub ready : Ready (h .ids) rows marks proposals (lent (buffers .answers) (buffers .finalMarks) (buffers .triangles) work)
+      ready = record {
+        closed = is-closed;
+        ground = record {
           few = rw counted (l .few);
-          each = ap length marks-is ∙ section-length job (marksAt track (meant h)) (h .rows) (omega (arith, l .long)) ∙ sym counted;
-          listed = listed ∙ sym (ap (written (neighbourList (tableIn rows))) listed
-              ∙ written-over (neighbourList (tableIn rows)) (neighbourList (tableIn rows)) (buffers .work) (le-refl (length (neighbourList (tableIn rows)))));
-          work-room = rw (listed, written-length (neighbourList (tableIn rows)) (buffers .work) list-fits, counted) (l .work-room);
-          answer-room = rw proposals-counted (l .answer-room);
-          mark-room = rw counted (l .mark-room);
-          triangle-room = rw counted (l .triangle-room);
+          paired = is-closed .paired;
+          room = rw (counted, work-long) (le-refl (workRoom track (meant h)));
+          at = λ r c lr lc.
+              ap (λ (xs : List ℕ). getD xs (4 * r + c) 0) listed
+              ∙ written-at (neighbourList (tableIn rows)) (buffers .work) (4 * r + c) (rw (list-length (tableIn rows)) (omega arith))
+              ∙ list-at (tableIn rows) r c lr lc;
         };
-        below = is-closed;
-        few-ids = l .few-ids;
-        counted = sym counted;
+        each = ap length marks-is ∙ section-length job (marksAt track (meant h)) (h .rows) (omega (arith, l .long)) ∙ sym counted;
+        listed = listed ∙ sym (ap (written (neighbourList (tableIn rows))) listed
+            ∙ written-over (neighbourList (tableIn rows)) (neighbourList (tableIn rows)) (buffers .work) (le-refl (length (neighbourList (tableIn rows)))));
+        answer-room = rw proposals-counted (l .answer-room);
+        mark-room = rw counted (l .mark-room);
+        triangle-room = rw counted (l .triangle-room);
       }
 
       pub table-passed : {r : Result} → r ≡ fromMarks h (jobIn (h .ids) rows marks proposals) (lent (buffers .answers) (buffers .finalMarks) (buffers .triangles) work)
@@ -180,7 +189,7 @@ module _ {h : Header} {job : List ℕ} {buffers : Lent} (l : Laid h job buffers)
       table-passed {r} e =
           e
           ∙ same-left (meant h) (markTests (tableIn rows) (h .ids) marks) 10 (lit≤ tt) (jobIn (h .ids) rows marks proposals)
-          (buffers .answers) (buffers .finalMarks) (buffers .triangles) work (buffers .work) (sym counted) refl listed
+          (buffers .answers) (buffers .finalMarks) (buffers .triangles) work (buffers .work) (sym list-fits) listed
           ∙ ap (λ (v : Verdict). decided (meant h) v (jobIn (h .ids) rows marks proposals) buffers)
           (sym (match-append 5 (lit< tt) (tableTests (tableIn rows) (h .ids)) (markTests (tableIn rows) (h .ids) marks) (ap (λ (v : Verdict). v .code) (sym found) ∙ sym same-code ∙ z)))
           ∙ ap (λ (j : Job). fromTable h j buffers) job-is

@@ -4,9 +4,10 @@ use mathlib.Core.Logic.{⊎-elim, _≢_}
 use mathlib.Core.Bool.{false, not, cond}
 use mathlib.Core.List.{List, _++_, flatten}
 use Prim.Native.Nat.{ℕ, _+_, _*_, _/_, _≤_}
+use native.Mathlib.Nat.{le-refl}
 use native.Mathlib.Omega.{arith}
 use lib.Dec.{eqb, leb, lit≤}
-use lib.ListN.{length, getD, take, drop, replicate}
+use lib.ListN.{length, take, drop, replicate, length-replicate}
 use lib.Seq.{take-append-seam, drop-append-seam}
 use borrow.Author.Tests.{ne-eqb, lt-leb}
 use Rattle.rules.specs.Table.{Table, neighbourList}
@@ -15,15 +16,16 @@ use Rattle.rules.specs.Skin.{skin}
 use Rattle.rules.specs.Proposals.{Proposal, insideIn, answersTo, finalMarks, taken}
 use Rattle.rules.specs.Job as rules
 use Rattle.rules.specs.Job.{track, headerOf, mostIds, mostRows, mostProposals, wholeLength, Job, jobOf, Lent, workRoom, listRoom, written, markTests, sectionTests, Result, accepted, refused, verdictOn, run}
+use Rattle.rules.specs.Laws.Truth.{same-or-not}
 use Rattle.rules.specs.Laws.Proposals.{final-length}
 use Rattle.rules.specs.Laws.First.{match-code}
-use Rattle.rules.specs.Laws.Written.{written-length, written-at}
-use Rattle.rules.specs.Reading.Closed.{Closed, list-length, list-at}
+use Rattle.rules.specs.Laws.Written.{written-length, written-whole, written-front}
+use Rattle.rules.specs.Reading.Closed.{Closed}
 use Rattle.job.specs.declared.Header.{Header}
 use Rattle.job.specs.Reading.{meant, header}
-use Rattle.table.specs.Rows.{tableIn}
-use Rattle.skin.specs.Ground.{Ground}
-use Rattle.marks.specs.Far.{Marked}
+use Rattle.table.specs.Rows.{tableIn, rowsIn}
+use Rattle.table.specs.Ground.{Ground}
+use Rattle.rings.specs.Far.{Marked}
 use Rattle.growth.specs.Answers.{proposalsIn}
 use Rattle.track.specs.declared.Outcome.{Outcome}
 use Rattle.track.specs.Outcomes.{lent, result, refusal}
@@ -49,41 +51,20 @@ fromMarks h job = decided (meant h) (firstMatch 10 (markTests (job .table) (job 
 
 -- ---- what each stage may rest on
 
--- rows that are a closed table whose neighbour list stands at the front of work, a mark for each row, and room for what a run leaves
-pub record Grounded (rows marks proposals : List ℕ) (buffers : Lent) : Type 0 where
-  pub idCount : ℕ
-  pub closed : Closed (tableIn rows) idCount
-  pub few : length rows / 16 ≤ 2048
-  pub each : length marks ≡ length rows / 16
+-- a closed table whose neighbour list stands at the front of work, a mark for each row, and room for what a run leaves
+pub record Ready (ids : ℕ) (rows marks proposals : List ℕ) (buffers : Lent) : Type 0 where
+  pub closed : Closed (tableIn rows) ids
+  pub ground : Ground rows (buffers .work) ids
+  pub each : length marks ≡ rowsIn rows
   pub listed : buffers .work ≡ written (neighbourList (tableIn rows)) (buffers .work)
-  pub work-room : 4 * (length rows / 16) ≤ length (buffers .work)
   pub answer-room : length proposals / 8 ≤ length (buffers .answers)
-  pub mark-room : length rows / 16 ≤ length (buffers .finalMarks)
-  pub triangle-room : 6 * (length rows / 16) ≤ length (buffers .triangles)
+  pub mark-room : rowsIn rows ≤ length (buffers .finalMarks)
+  pub triangle-room : 6 * rowsIn rows ≤ length (buffers .triangles)
 
-pub the-ground : {rows marks proposals : List ℕ} {buffers : Lent} → Grounded rows marks proposals buffers → Ground rows (buffers .work)
-the-ground {rows} {buffers = buffers} g = record {
-  idCount = g .idCount;
-  closed = g .closed;
-  few = g .few;
-  room = g .work-room;
-  at = λ r c l m.
-      ap (λ (xs : List ℕ). getD xs (4 * r + c) 0) (g .listed)
-      ∙ written-at (neighbourList (tableIn rows)) (buffers .work) (4 * r + c) (rw (list-length (tableIn rows)) (omega arith))
-      ∙ list-at (tableIn rows) r c l m;
-}
+pub the-marks : {ids : ℕ} {rows marks proposals : List ℕ} {buffers : Lent} → Ready ids rows marks proposals buffers → ids ≤ mostIds → Marked rows (buffers .work) marks ids
+the-marks s few = record { ground = s .ground; few = few; each = s .each }
 
--- what the starting marks are looked at with
-pub record Standing (h : Header) (rows marks proposals : List ℕ) (buffers : Lent) : Type 0 where
-  pub grounded : Grounded rows marks proposals buffers
-  pub below : Closed (tableIn rows) (h .ids)
-  pub few-ids : h .ids ≤ 1024
-  pub counted : h .rows ≡ length rows / 16
-
-pub the-marks : {h : Header} {rows marks proposals : List ℕ} {buffers : Lent} → Standing h rows marks proposals buffers → Marked rows (buffers .work) marks (h .ids)
-the-marks s = record { ground = the-ground (s .grounded); below = s .below .below; few = s .few-ids; each = s .grounded .each }
-
--- a job that is laid out, and rooms that are not short
+-- a job that is laid out, rooms that are not short, and as much work as is needed
 pub record Laid (h : Header) (job : List ℕ) (buffers : Lent) : Type 0 where
   pub is : h ≡ header job
   pub few-ids : h .ids ≤ mostIds
@@ -93,27 +74,61 @@ pub record Laid (h : Header) (job : List ℕ) (buffers : Lent) : Type 0 where
   pub answer-room : h .proposals ≤ length (buffers .answers)
   pub mark-room : h .rows ≤ length (buffers .finalMarks)
   pub triangle-room : listRoom track (meant h) ≤ length (buffers .triangles)
-  pub work-room : workRoom track (meant h) ≤ length (buffers .work)
+  pub work-room : length (buffers .work) ≡ workRoom track (meant h)
 
 -- ---- the verdict on the marks
 
 pub late : (code : ℕ) → 5 ≤ code → (tests : List Test) → firstMatch code tests .code ≢ 0 → leb (firstMatch code tests .code) 4 ≡ false
 late code l tests ne = ⊎-elim (λ z. absurd (ne z)) (λ m. lt-leb (firstMatch code tests .code) 4 (omega arith)) (match-code code tests)
 
-module _ {h : Header} {rows marks proposals : List ℕ} {buffers : Lent} (s : Standing h rows marks proposals buffers)
+-- zeros in all of the work that is needed
+pub all-zero : (h : Header) (work : List ℕ) → length work ≡ workRoom track (meant h) → written (replicate (workRoom track (meant h)) 0) work ≡ replicate (length work) 0
+all-zero h work e = rw (← e) (written-whole (replicate (length work) 0) work (rw (length-replicate {A = ℕ} (length work) 0) (le-refl (length work))))
+
+module _ (h : Header) {rows marks proposals : List ℕ} {buffers : Lent} (s : Ready (h .ids) rows marks proposals buffers) (room : length (buffers .work) ≡ workRoom track (meant h))
     {v : Verdict} (is : v ≡ firstMatch 10 (markTests (tableIn rows) (h .ids) marks)) {o : Outcome} (told : o ≡ refusal v) where
-  pub marks-refused : {work : List ℕ} → o .code ≢ 0 → work ≡ written (replicate (4 * (length rows / 16)) 0) (buffers .work)
+  pub marks-refused : {work : List ℕ} → o .code ≢ 0 → work ≡ replicate (length (buffers .work)) 0
       → result o (lent (buffers .answers) (buffers .finalMarks) (buffers .triangles) work)
       ≡ fromMarks h (jobIn (h .ids) rows marks proposals) buffers
   unfolding decided refused
   marks-refused ne ew =
       let off : v .code ≢ 0 = λ z. ne (ap (λ (x : Outcome). x .code) told ∙ z) in
-      rw (told, ← is, ne-eqb (v .code) 0 off, ap (λ (w : Verdict). leb (w .code) 4) is ∙ late 10 (lit≤ tt) (markTests (tableIn rows) (h .ids) marks) (λ z. off (ap (λ (w : Verdict). w .code) is ∙ z)), s .counted, ew)
+      let later = ap (λ (w : Verdict). leb (w .code) 4) is ∙ late 10 (lit≤ tt) (markTests (tableIn rows) (h .ids) marks) (λ z. off (ap (λ (w : Verdict). w .code) is ∙ z)) in
+      rw (told, ← is, ne-eqb (v .code) 0 off, later, all-zero h (buffers .work) room, ew)
 
   pub marks-accepted : o .code ≡ 0 → {r : Result} → ((ids : ℕ) → r ≡ accepted (jobIn ids rows marks proposals) buffers)
       → r ≡ fromMarks h (jobIn (h .ids) rows marks proposals) buffers
   unfolding decided
   marks-accepted z e = rw (← is, sym (ap (λ (x : Outcome). x .code) told) ∙ z) (e (h .ids))
+
+-- ---- the work that is needed, lent by itself
+
+-- what is left in the front, and the rest as it was
+abbrev pub withRest : List ℕ → Result → Result
+withRest rest r = record {
+  code = r .code;
+  place = r .place;
+  taken = r .taken;
+  triangles = r .triangles;
+  left = lent (r .left .answers) (r .left .finalMarks) (r .left .triangles) (r .left .work ++ rest);
+}
+
+pub front-decides : (h : Header) (tests : List Test) (code : ℕ) → 5 ≤ code → (job : Job) → length (neighbourList (job .table)) ≤ workRoom track (meant h)
+    → (answers final triangles work : List ℕ) → workRoom track (meant h) ≤ length work
+    → withRest (drop (workRoom track (meant h)) work) (decided (meant h) (firstMatch code tests) job (lent answers final triangles (take (workRoom track (meant h)) work)))
+    ≡ decided (meant h) (firstMatch code tests) job (lent answers final triangles work)
+unfolding decided accepted refused
+front-decides h tests code l job fits answers final triangles work room =
+    ⊎-elim (λ (z : firstMatch code tests .code ≡ 0). rw (z, written-front (neighbourList (job .table)) work (workRoom track (meant h)) fits room))
+    (λ (ne : firstMatch code tests .code ≡ 0 → ⊥).
+    rw (ne-eqb (firstMatch code tests .code) 0 ne, late code l tests ne, written-front zeros work (workRoom track (meant h)) (rw full (le-refl (workRoom track (meant h)))) room))
+    (same-or-not (firstMatch code tests .code) 0)
+  where
+    zeros : List ℕ
+    zeros = replicate (workRoom track (meant h)) 0
+
+    full : length zeros ≡ workRoom track (meant h)
+    full = length-replicate {A = ℕ} (workRoom track (meant h)) 0
 
 -- ---- the front of the final marks, lent by itself
 
@@ -143,20 +158,20 @@ module _ (t : Table) (marks final₀ : List ℕ) (ps : List Proposal) {whole : L
       left-is : left ≡ finalMarks t marks ps
       left-is = el ∙ ap (λ (m : List ℕ). finalMarks t m ps) front-is
 
-pub final-room : {rows marks proposals : List ℕ} {buffers : Lent} → Grounded rows marks proposals buffers → {final : List ℕ}
-    → final ≡ written (finalMarks (tableIn rows) marks (proposalsIn proposals)) (buffers .finalMarks) → length rows / 16 ≤ length final
-final-room {rows} {marks} {proposals} {buffers} g e =
+pub final-room : {ids : ℕ} {rows marks proposals : List ℕ} {buffers : Lent} → Ready ids rows marks proposals buffers → {final : List ℕ}
+    → final ≡ written (finalMarks (tableIn rows) marks (proposalsIn proposals)) (buffers .finalMarks) → rowsIn rows ≤ length final
+final-room {rows = rows} {marks = marks} {proposals = proposals} {buffers = buffers} g e =
     rw (e, written-length (finalMarks (tableIn rows) marks (proposalsIn proposals)) (buffers .finalMarks) (rw (final-length (tableIn rows) marks (proposalsIn proposals), g .each) (g .mark-room))) (g .mark-room)
 
 -- what an accepted job leaves, whatever its V, once its marks are answered and its skin is listed
-pub grown : {rows marks proposals : List ℕ} {buffers : Lent} → Grounded rows marks proposals buffers → {count taken-count : ℕ} {answers final triangles : List ℕ}
+pub grown : {v : ℕ} {rows marks proposals : List ℕ} {buffers : Lent} → Ready v rows marks proposals buffers → {count taken-count : ℕ} {answers final triangles : List ℕ}
     → taken-count ≡ taken (answersTo (tableIn rows) marks (proposalsIn proposals)) → answers ≡ written (answersTo (tableIn rows) marks (proposalsIn proposals)) (buffers .answers)
     → final ≡ written (finalMarks (tableIn rows) marks (proposalsIn proposals)) (buffers .finalMarks)
-    → count ≡ length (skin (tableIn rows) (insideIn (take (length rows / 16) final)))
-    → triangles ≡ written (flatten (skin (tableIn rows) (insideIn (take (length rows / 16) final)))) (buffers .triangles) → (ids : ℕ)
+    → count ≡ length (skin (tableIn rows) (insideIn (take (rowsIn rows) final)))
+    → triangles ≡ written (flatten (skin (tableIn rows) (insideIn (take (rowsIn rows) final)))) (buffers .triangles) → (ids : ℕ)
     → result (record { code = 0; place = 0; taken = taken-count; triangles = count }) (lent answers final triangles (buffers .work)) ≡ accepted (jobIn ids rows marks proposals) buffers
 unfolding accepted
-grown {rows} {marks} {proposals} {buffers} g {final = final} et ea ef ec el ids =
+grown {rows = rows} {marks = marks} {proposals = proposals} {buffers = buffers} g {final = final} et ea ef ec el ids =
     rw (et, ea, ec, el, front, ef) (ap (λ (w : List ℕ). result (record { code = 0; place = 0; taken = taken given; triangles = length sk }) (lent (written given (buffers .answers)) (written ms (buffers .finalMarks)) (written (flatten sk) (buffers .triangles)) w)) (g .listed))
   where
     given : List ℕ
@@ -168,5 +183,5 @@ grown {rows} {marks} {proposals} {buffers} g {final = final} et ea ef ec el ids 
     sk : List (List ℕ)
     sk = skin (tableIn rows) (insideIn ms)
 
-    front : take (length rows / 16) final ≡ ms
-    front = ap (take (length rows / 16)) ef ∙ front-written ms (buffers .finalMarks) (sym (g .each) ∙ sym (final-length (tableIn rows) marks (proposalsIn proposals)))
+    front : take (rowsIn rows) final ≡ ms
+    front = ap (take (rowsIn rows)) ef ∙ front-written ms (buffers .finalMarks) (sym (g .each) ∙ sym (final-length (tableIn rows) marks (proposalsIn proposals)))

@@ -2,6 +2,7 @@
 use crate::Outcome;
 use growth::answer_all;
 use skin_list::list_skin;
+use table::row_count;
 ghost use mathlib.Core.Path.{_≡_};
 ghost use mathlib.Core.List.{flatten};
 ghost use Prim.Native.Nat.{ℕ, _*_, _/_, _≤_};
@@ -9,11 +10,11 @@ ghost use lib.ListN.{length, take};
 ghost use Rattle.rules.specs.Skin.{skin};
 ghost use Rattle.rules.specs.Proposals.{insideIn, answersTo, finalMarks, taken};
 ghost use Rattle.rules.specs.Job.{written, accepted};
-ghost use Rattle.table.specs.Rows.{tableIn};
-ghost use Rattle.skin.specs.Ground.{Ground};
+ghost use Rattle.table.specs.Rows.{tableIn, rowsIn};
+ghost use Rattle.table.specs.Ground.{Grounded, ClosedGround};
 ghost use Rattle.growth.specs.Answers.{proposalsIn};
 ghost use Rattle.track.specs.Outcomes.{lent, result};
-ghost use Rattle.track.specs.Stages.{jobIn, Grounded};
+ghost use Rattle.track.specs.Stages.{jobIn, Ready};
 
 fn copy(from: &[u8], to: &mut [u8])
     requires { ⌜ length (now from) ≤ length (now to) ⌝ }
@@ -35,7 +36,7 @@ fn answer_copied(
     final_marks: &mut [u8],
     work: &[u32],
 ) -> usize
-    requires { ⌜ Ground (now rows) (now work) × (length (now marks) ≡ length (now rows) / 16) × (length (now proposals) / 8 ≤ length (now answers)) × (length (now rows) / 16 ≤ length (now «final_marks»)) ⌝ }
+    requires { ⌜ ClosedGround (now rows) (now work) × (length (now marks) ≡ rowsIn (now rows)) × (length (now proposals) / 8 ≤ length (now answers)) × (rowsIn (now rows) ≤ length (now «final_marks»)) ⌝ }
     ensures { λ r. ⌜ (r ≡ taken (answersTo (tableIn (now (rows .entry))) (now (marks .entry)) (proposalsIn (now (proposals .entry)))))
         × (now (answers .exit) ≡ written (answersTo (tableIn (now (rows .entry))) (now (marks .entry)) (proposalsIn (now (proposals .entry)))) (now (answers .entry)))
         × (now («final_marks» .exit) ≡ written (finalMarks (tableIn (now (rows .entry))) (now (marks .entry)) (proposalsIn (now (proposals .entry)))) (now («final_marks» .entry))) ⌝ }
@@ -47,11 +48,11 @@ fn answer_copied(
 
 // The skin of the marks at the front of the final marks.
 fn list_front(rows: &[u8], final_marks: &[u8], triangles: &mut [u32], work: &[u32]) -> usize
-    requires { ⌜ Ground (now rows) (now work) × (length (now rows) / 16 ≤ length (now «final_marks»)) × (6 * (length (now rows) / 16) ≤ length (now triangles)) ⌝ }
-    ensures { λ r. ⌜ (r ≡ length (skin (tableIn (now (rows .entry))) (insideIn (take (length (now (rows .entry)) / 16) (now («final_marks» .entry))))))
-        × (now (triangles .exit) ≡ written (flatten (skin (tableIn (now (rows .entry))) (insideIn (take (length (now (rows .entry)) / 16) (now («final_marks» .entry)))))) (now (triangles .entry))) ⌝ }
+    requires { ⌜ Grounded (now rows) (now work) × (rowsIn (now rows) ≤ length (now «final_marks»)) × (6 * rowsIn (now rows) ≤ length (now triangles)) ⌝ }
+    ensures { λ r. ⌜ (r ≡ length (skin (tableIn (now (rows .entry))) (insideIn (take (rowsIn (now (rows .entry))) (now («final_marks» .entry))))))
+        × (now (triangles .exit) ≡ written (flatten (skin (tableIn (now (rows .entry))) (insideIn (take (rowsIn (now (rows .entry))) (now («final_marks» .entry)))))) (now (triangles .entry))) ⌝ }
 {
-    let n = rows.len() / 16;
+    let n = row_count(rows);
     list_skin(rows, work, &final_marks[..n], triangles)
 }
 
@@ -64,7 +65,7 @@ pub(crate) fn grow(
     triangles: &mut [u32],
     work: &[u32],
 ) -> Outcome
-    requires { ⌜ Grounded (now rows) (now marks) (now proposals) (lent (now answers) (now «final_marks») (now triangles) (now work)) ⌝ }
+    requires { ⌜ ((ids : ℕ) × Ready ids (now rows) (now marks) (now proposals) (lent (now answers) (now «final_marks») (now triangles) (now work))) ⌝ }
     ensures { λ r. ⌜ ((ids : ℕ) → result r (lent (now (answers .exit)) (now («final_marks» .exit)) (now (triangles .exit)) (now (work .entry)))
         ≡ accepted (jobIn ids (now (rows .entry)) (now (marks .entry)) (now (proposals .entry))) (lent (now (answers .entry)) (now («final_marks» .entry)) (now (triangles .entry)) (now (work .entry)))) ⌝ }
 {

@@ -12,11 +12,14 @@ use table::Broken;
 use table::check;
 use table::clear;
 ghost use mathlib.Core.Path.{_≡_};
-ghost use Rattle.rules.specs.Job.{track, jobOf, run};
+ghost use Prim.Native.Nat.{_≤_};
+ghost use lib.ListN.{length};
+ghost use Rattle.rules.specs.Job.{track, mostIds, workRoom, jobOf, run};
+ghost use Rattle.job.specs.Reading.{meant};
 ghost use Rattle.table.specs.Closed as closed;
 ghost use Rattle.marks.specs.Start as start;
 ghost use Rattle.track.specs.Outcomes.{refusal, lent, result};
-ghost use Rattle.track.specs.Stages.{jobIn, fromTable, fromMarks, Standing, Laid};
+ghost use Rattle.track.specs.Stages.{jobIn, fromTable, fromMarks, Ready, Laid};
 
 // Code and place as document 01 has them, and the numbers of proposals taken and of skin triangles.
 pub struct Outcome {
@@ -74,14 +77,15 @@ fn run_closed(
     triangles: &mut [u32],
     work: &mut [u32],
 ) -> Outcome
-    requires { ⌜ Standing h (now rows) (now marks) (now proposals) (lent (now answers) (now «final_marks») (now triangles) (now work)) ⌝ }
+    requires { ⌜ Ready (h .ids) (now rows) (now marks) (now proposals) (lent (now answers) (now «final_marks») (now triangles) (now work))
+        × (h .ids ≤ mostIds) × (length (now work) ≡ workRoom track (meant h)) ⌝ }
     ensures { λ r. ⌜ result r (lent (now (answers .exit)) (now («final_marks» .exit)) (now (triangles .exit)) (now (work .exit)))
         ≡ fromMarks h (jobIn (h .ids) (now (rows .entry)) (now (marks .entry)) (now (proposals .entry)))
         (lent (now (answers .entry)) (now («final_marks» .entry)) (now (triangles .entry)) (now (work .entry))) ⌝ }
 {
     let found = of_marks(check_marks(rows, work, marks, h.ids));
     if found.code != 0 {
-        clear(work, 4 * (rows.len() / 16));
+        clear(work);
         return found;
     }
     grow(
@@ -95,7 +99,7 @@ fn run_closed(
     )
 }
 
-// From the table on.
+// From the table on, with as many work words as the job needs.
 fn run_laid(
     h: Header,
     job: &[u8],
@@ -156,7 +160,8 @@ pub fn run(
             ) {
                 return refused(4, 0);
             }
-            run_laid(h, job, answers, final_marks, triangles, work)
+            let room = h.work_room();
+            run_laid(h, job, answers, final_marks, triangles, &mut work[..room])
         }
     }
 }

@@ -3,7 +3,7 @@ use Prim.Native.Nat.{_-_}
 use borrow.Author.Needs.{needs}
 use Rattle.rules.specs.Reading.Moves.{leaves}
 use Rattle.table.specs.Rows.{tableIn}
-use Rattle.skin.specs.Ground.{neighbour-listed}
+use Rattle.table.specs.Ground.{neighbour-listed}
 use Rattle.round.specs.Edge.{Sought, leads, sought-none, sought-more, sought-found}
 use Rattle.round.proofs.way.Statement.{statement}
 use Rattle.round.proofs.way.Tie as tie
@@ -21,10 +21,10 @@ id-at-requires : tie.Need-id-at-requires Inv-loop μ-loop
 id-at-requires c κs = (c .before .before .before .before .pre .2 .0 .0, c .loop-test .taken)
 
 across-at-requires : tie.Need-across-at-requires Inv-loop μ-loop
-across-at-requires c κs = let given = c .before .before .before .before .before .pre in neighbour-listed (given .0) _ _ (given .2 .0 .0) (c .before .loop-test .taken)
+across-at-requires c κs = let given = c .before .before .before .before .before .pre in neighbour-listed (given .0 .1) _ _ (given .2 .0 .0) (c .before .loop-test .taken)
 
-pick-requires : tie.Need-pick-requires Inv-loop μ-loop
-pick-requires c κs = tt
+choose-requires : tie.Need-choose-requires Inv-loop μ-loop
+choose-requires c κs = tt
 
 add-corner : tie.Need-add-corner Inv-loop μ-loop
 add-corner c = search needs
@@ -38,13 +38,13 @@ loop-again c =
     let given = c .before .before .before .before .before .before .before .pre in
     let l = c .before .before .before .loop-test .taken in
     sought-more l (c .before .before .before .before .loop .inv)
-    (c .pick .ensures ∙ rw (c .before .before .id-at .ensures, c .before .across-at .ensures, given .0 .at _ _ (given .2 .0 .0) l))
+    (c .choose .ensures ∙ rw (c .before .before .id-at .ensures, c .before .across-at .ensures, given .0 .1 .at _ _ (given .2 .0 .0) l))
 
 returns : tie.Need-returns Inv-loop μ-loop
 returns c =
     let given = c .before .before .before .before .pre in
     let found = c .before .loop .inv in
-    (found .below, sought-found (given .0 .closed) refl (given .1) (given .2) found (c .loop-test .left))
+    (found .below, sought-found (given .0 .1 .paired) refl (given .1) (given .2) found (c .loop-test .left))
 
 pub way-spec : {M : Type 1} → statement M
 way-spec =
@@ -55,7 +55,7 @@ way-spec =
     loop-holds
     id-at-requires
     across-at-requires
-    pick-requires
+    choose-requires
     add-corner
     loop-less
     loop-again

@@ -1,11 +1,11 @@
 -- Buffers with a list written at their front.
 use mathlib.Core.Path.{_≡_, refl, sym, ap, _∙_}
-use mathlib.Core.List.{List, [], _∷_, _++_, append-nil}
+use mathlib.Core.List.{List, [], _∷_, _++_, append-nil, append-assoc}
 use Prim.Native.Nat.{ℕ, suc, _+_, _-_, _≤_, _<_}
 use native.Mathlib.Numerals.{add-one}
 use native.Mathlib.Omega.{arith}
-use lib.ListN.{length, getD, set, drop, replicate, length-append, length-drop, length-replicate, List·getD-append, replicate-append-replicate}
-use lib.Seq.{sets, drop-cons, set-append-seam, append-snoc, drop-append-add, drop-drop}
+use lib.ListN.{length, getD, set, take, drop, replicate, take-append-drop, drop-of-length-le, length-append, length-drop, length-replicate, List·getD-append, replicate-append-replicate}
+use lib.Seq.{sets, length-take-le, drop-append-le, drop-cons, set-append-seam, append-snoc, drop-append-add, drop-drop}
 use Rattle.rules.specs.Below.{tabulate}
 use Rattle.rules.specs.Job.{written}
 use Rattle.rules.specs.Laws.Lists.{tabulate-more, tabulate-length}
@@ -56,6 +56,18 @@ cleared-more n d l =
 
     full : length zeros ≡ n
     full = length-replicate {A = ℕ} n 0
+
+-- a list as long as the buffer
+pub written-whole : (xs d : List ℕ) → length d ≤ length xs → written xs d ≡ xs
+unfolding written
+written-whole xs d l = ap (λ (zs : List ℕ). xs ++ zs) (drop-of-length-le d l) ∙ append-nil xs
+
+-- a list written to a front that is lent by itself
+pub written-front : (xs d : List ℕ) (n : ℕ) → length xs ≤ n → n ≤ length d → written xs (take n d) ++ drop n d ≡ written xs d
+unfolding written
+written-front xs d n l m =
+    append-assoc xs (drop (length xs) (take n d)) (drop n d)
+    ∙ ap (λ (zs : List ℕ). xs ++ zs) (sym (drop-append-le (length xs) (take n d) (drop n d) (rw (length-take-le n d m) l)) ∙ ap (drop (length xs)) (take-append-drop n d))
 
 -- a longer list over a shorter one
 pub written-over : (ys xs d : List ℕ) → length xs ≤ length ys → written ys (written xs d) ≡ written ys d

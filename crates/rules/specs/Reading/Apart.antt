@@ -1,4 +1,4 @@
--- No two rows of a closed table have the same ids.
+-- No two rows that rise and are in order have the same ids.
 use mathlib.Core.Path.{_≡_, sym, ap, _∙_, subst}
 use mathlib.Core.Logic.{_⊎_, inl, inr, ⊎-elim}
 use Prim.Native.Nat.{ℕ, zero, suc, _-_, _<_}
@@ -8,7 +8,7 @@ use lib.Dec.{lit<}
 use Rattle.rules.specs.Table.{Table}
 use Rattle.rules.specs.Laws.Truth.{lower-same-higher}
 use Rattle.rules.specs.Reading.Rows.{Rising, Before, Holds}
-use Rattle.rules.specs.Reading.Closed.{Closed}
+use Rattle.rules.specs.Reading.Closed.{Paired}
 
 module _ (t : Table) where
   before-trans : (s m r : ℕ) → Before t s m → Before t m r → Before t s r
@@ -48,14 +48,14 @@ module _ (t : Table) where
       at (suc (suc (suc zero))) l a b c d = sym d
       at (suc (suc (suc (suc k)))) l a b c d = absurd (omega arith)
 
-module _ {t : Table} {idCount : ℕ} (closed : Closed t idCount) (four : t .corners ≡ 4) where
+module _ {t : Table} {idCount : ℕ} (paired : Paired t idCount) (four : t .corners ≡ 4) where
   in-order : (s r : ℕ) → s < r → r < t .rows → Before t s r
   in-order s zero l m = absurd (not-suc-le-zero l)
   in-order s (suc r) l m =
       ⊎-elim (λ (e : s ≡ r). subst (λ u. Before t u (suc r)) (sym e) here) (λ (k : s < r). before-trans t s r (suc r) (in-order s r k (omega arith)) here) (eq-or-lt-of-le (le-of-suc-le-suc l))
     where
       here : Before t r (suc r)
-      here = subst (λ u. Before t u (suc r)) (omega arith) (closed .ordered (suc r) (omega arith) m)
+      here = subst (λ u. Before t u (suc r)) (omega arith) (paired .ordered (suc r) (omega arith) m)
 
   no-before : (s r : ℕ) → ((k : ℕ) → k < 4 → t .id s k ≡ t .id r k) → Before t s r → ⊥
   no-before s r same b = omega (arith, b .lower, same (b .corner) (rw four at (b .below)))
@@ -65,7 +65,7 @@ module _ {t : Table} {idCount : ℕ} (closed : Closed t idCount) (four : t .corn
   one-row x y lx ly held = go (lower-same-higher x y)
     where
       same : (k : ℕ) → k < 4 → t .id x k ≡ t .id y k
-      same = same-corners t four x y (closed .rising x lx) (closed .rising y ly) held
+      same = same-corners t four x y (paired .rising x lx) (paired .rising y ly) held
 
       go : (x < y) ⊎ (x ≡ y) ⊎ (y < x) → x ≡ y
       go (inl l) = absurd (no-before x y same (in-order x y l ly))

@@ -155,20 +155,28 @@ list-at t r c l m =
     tabulate-at (t .corners * t .rows) (λ k. across t (k / t .corners) (k % t .corners)) 0 (t .corners * r + c) (omega (arith, mul-le-mul-left (t .corners) l, mul-suc (t .corners) r))
     ∙ rw (mul-add-div {m = t .corners} (omega arith) r c, div-eq-of-lt m, add-zero r, mul-add-mod-self-left (t .corners) r c, mod-eq-of-lt m)
 
--- ---- rules 5 to 9 together
+-- ---- rules 5 to 7 together, and 5 to 9
 
-pub record Closed (t : Table) (idCount : ℕ) : Type 0 where
+-- rows that rise, are in order, and hold each triangle in pairs: what the neighbour list needs to mean something
+pub record Paired (t : Table) (idCount : ℕ) : Type 0 where
   pub rising : (r : ℕ) → r < t .rows → Rising t r
   pub below : (r : ℕ) → r < t .rows → IdsBelow t idCount r
   pub ordered : (r : ℕ) → 0 < r → r < t .rows → Before t (r - 1) r
   pub two : (r : ℕ) → r < t .rows → TrianglesShared t r
+
+pub record Closed (t : Table) (idCount : ℕ) : Type 0 where
+  pub paired : Paired t idCount
   pub edges : (r : ℕ) → r < t .rows → EdgesJoined t r
   pub vertices : (r : ℕ) → r < t .rows → VerticesJoined t r
 
-module _ {t : Table} {idCount : ℕ} (closed : Closed t idCount) where
-  pub across-is : (r c : ℕ) → r < t .rows → c < t .corners → TheOther (t .rows) (Side t r c) r
-  across-is r c l m = the-other (closed .two r l c m) r l (side-self t r c)
+module _ {t : Table} {idCount : ℕ} (paired : Paired t idCount) (r c : ℕ) (l : r < t .rows) (m : c < t .corners) where
+  pub across-is : TheOther (t .rows) (Side t r c) r
+  across-is = the-other (paired .two r l c m) r l (side-self t r c)
 
+  pub across-below : across t r c < t .rows
+  across-below = rw (across-other t r c across-is) (across-is .below)
+
+module _ {t : Table} {idCount : ℕ} (closed : Closed t idCount) where
   -- any two rows that hold a vertex are joined by a chain of neighbours that all hold it
   pub vertex-rule : (v : ℕ) → Joined t (λ z. Holds t z v)
   vertex-rule v x y (l, (c, m, e)) = subst (λ (u : ℕ). Joined t (λ z. Holds t z u)) e (closed .vertices x l c m) x y (l, (c, m, e))

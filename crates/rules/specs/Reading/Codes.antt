@@ -22,7 +22,7 @@ use Rattle.rules.specs.Laws.Truth.{is-true, not-both, and-both, not-read
 use Rattle.rules.specs.Laws.Below.{lowest-none, none-any}
 use Rattle.rules.specs.Laws.First.{Reads, FirstOf, conditionAt, first-reads, none-reads, given-reads, given-none, match-parts, match-below, match-zero, match-none}
 use Rattle.rules.specs.Reading.Rows.{First, lowest-first, Rising, rising-reads, IdsBelow, ids-below-reads, Before, before-reads, Holds, holds-reads}
-use Rattle.rules.specs.Reading.Closed.{TrianglesShared, triangles-read, EdgesJoined, edges-read, VerticesJoined, vertices-read, Closed}
+use Rattle.rules.specs.Reading.Closed.{TrianglesShared, triangles-read, EdgesJoined, edges-read, VerticesJoined, vertices-read, Paired, Closed}
 use Rattle.rules.specs.Reading.Skin.{SkinTriangle, far-reads, skin-vertex-reads}
 use Rattle.rules.specs.Reading.Ring.{OneRing, ring-map, one-ring-reads}
 
@@ -110,19 +110,25 @@ module _ (t : Table) (idCount : ℕ) where
   each-row : (p : ℕ → Bool) → lowest (t .rows) (λ r. not (p r)) ≡ none → (r : ℕ) → r < t .rows → p r ≡ true
   each-row p e r l = not-false (p r) (lowest-none (t .rows) (λ r. not (p r)) e r l)
 
-  all-rising : lowest (t .rows) (badRow t idCount) ≡ none → (r : ℕ) → r < t .rows → Rising t r
+  pub all-rising : lowest (t .rows) (badRow t idCount) ≡ none → (r : ℕ) → r < t .rows → Rising t r
   all-rising e r l = rows-read r .0 (each-row (λ r. rising t r && idsBelow t idCount r) e r l) .0
 
-  -- what the five tests have shown where none matched
-  none-closed : lowest (t .rows) (badRow t idCount) ≡ none → lowest (t .rows) (notAfter t) ≡ none
-      → lowest (t .rows) (λ r. not (trianglesShared t r)) ≡ none → lowest (t .rows) (λ r. not (edgesJoined t r)) ≡ none
-      → lowest (t .rows) (λ r. not (verticesJoined t r)) ≡ none → Closed t idCount
-  none-closed none5 none6 none7 none8 none9 = record {
+  -- what the tests have shown where none matched: the first three, and all five
+  pub none-paired : lowest (t .rows) (badRow t idCount) ≡ none → lowest (t .rows) (notAfter t) ≡ none
+      → lowest (t .rows) (λ r. not (trianglesShared t r)) ≡ none → Paired t idCount
+  none-paired none5 none6 none7 = record {
     rising = all-rising none5;
     below = λ r l. rows-read r .0 (each-row (λ r. rising t r && idsBelow t idCount r) none5 r l) .1;
     ordered = λ r pos l. before-reads t (r - 1) r .0 (is-true (before t (r - 1) r) (λ f.
         not-both (and-both (lt-ltb 0 r pos) (ap not f)) (lowest-none (t .rows) (notAfter t) none6 r l)));
     two = λ r l. triangles-read t r .0 (each-row (trianglesShared t) none7 r l);
+  }
+
+  none-closed : lowest (t .rows) (badRow t idCount) ≡ none → lowest (t .rows) (notAfter t) ≡ none
+      → lowest (t .rows) (λ r. not (trianglesShared t r)) ≡ none → lowest (t .rows) (λ r. not (edgesJoined t r)) ≡ none
+      → lowest (t .rows) (λ r. not (verticesJoined t r)) ≡ none → Closed t idCount
+  none-closed none5 none6 none7 none8 none9 = record {
+    paired = none-paired none5 none6 none7;
     edges = λ r l. edges-read t (all-rising none5) r .0 (each-row (edgesJoined t) none8 r l);
     vertices = λ r l. vertices-read t (all-rising none5) r .0 (each-row (verticesJoined t) none9 r l);
   }
@@ -164,9 +170,9 @@ module _ (t : Table) (idCount : ℕ) where
           none-closed n5 n6 n7 n8 n9
 
       broken : Closed t idCount → (i place : ℕ) → conditionAt (tableConditions t idCount) i place → ⊥
-      broken c zero place f = f .is (c .rising place (f .below), c .below place (f .below))
-      broken c (suc zero) place f = f .is .1 (c .ordered place (f .is .0) (f .below))
-      broken c (suc (suc zero)) place f = f .is (c .two place (f .below))
+      broken c zero place f = f .is (c .paired .rising place (f .below), c .paired .below place (f .below))
+      broken c (suc zero) place f = f .is .1 (c .paired .ordered place (f .is .0) (f .below))
+      broken c (suc (suc zero)) place f = f .is (c .paired .two place (f .below))
       broken c (suc (suc (suc zero))) place f = f .is (c .edges place (f .below))
       broken c (suc (suc (suc (suc zero)))) place f = f .is (c .vertices place (f .below))
       broken c (suc (suc (suc (suc (suc i))))) place f = f
@@ -183,7 +189,7 @@ module _ (t : Table) (idCount : ℕ) where
       λ _. (
         lowest-first idCount (ringless t (insideIn marks) idCount)
             (λ v. OnSkinVertex t (insideIn marks) v × (OneRing idCount (SkinTriangle t (insideIn marks) v) → ⊥))
-            (λ v _. and-reads (skin-vertex-reads t four (insideIn marks) closed v) (not-reads (ring v))),
+            (λ v _. and-reads (skin-vertex-reads t four (insideIn marks) (closed .paired) v) (not-reads (ring v))),
         λ _. tt,
       ),
     ),

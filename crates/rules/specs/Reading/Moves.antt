@@ -8,11 +8,10 @@ use lib.Dec.{eqb, lit<}
 use borrow.Author.Tests.{eqb-true}
 use Rattle.rules.specs.Table.{Table, holds, neighbours, across}
 use Rattle.rules.specs.Laws.Truth.{true-or-false, not-both, same-or-not, and-both, not-reads, and-reads, eqb-reads}
-use Rattle.rules.specs.Laws.Count.{TheOther, the-other}
 use Rattle.rules.specs.Laws.Joined.{Chain, stay, step, chain-ends, chain-join, Picked}
-use Rattle.rules.specs.Reading.Rows.{Rising, Holds, holds-reads}
-use Rattle.rules.specs.Reading.Neighbours.{Side, side-self, Neighbours, neighbours-read}
-use Rattle.rules.specs.Reading.Closed.{TrianglesShared, across-other}
+use Rattle.rules.specs.Reading.Rows.{Holds, holds-reads}
+use Rattle.rules.specs.Reading.Neighbours.{Side, Neighbours, neighbours-read}
+use Rattle.rules.specs.Reading.Closed.{Paired, across-other, across-is}
 
 -- row s holds a and b: an edge, or where a is b a vertex
 unfoldable pub both : Table → ℕ → ℕ → ℕ → Bool
@@ -48,17 +47,11 @@ Move t a b x y = (c : ℕ) × (c < 4) × (leaves t a b x c ≡ true) × (across 
 abbrev pub Joining : Table → ℕ → ℕ → ℕ → ℕ → Type 0
 Joining t a b x y = Chain (At t a b) (λ u v. neighbours t u v ≡ true) x y
 
-module _ (t : Table) (four : t .corners ≡ 4) (up : (r : ℕ) → r < t .rows → Rising t r) (two : (r : ℕ) → r < t .rows → TrianglesShared t r) where
-  the-across : (x c : ℕ) → x < t .rows → c < 4 → TheOther (t .rows) (Side t x c) x
-  the-across x c l m = the-other (two x l c (rw four m)) x l (side-self t x c)
-
-  pub across-below : (x c : ℕ) → x < t .rows → c < 4 → across t x c < t .rows
-  across-below x c l m = rw (across-other t x c (the-across x c l m)) (the-across x c l m .below)
-
+module _ {t : Table} {idCount : ℕ} (paired : Paired t idCount) (four : t .corners ≡ 4) where
   -- a move keeps to rows that hold a and b
   pub move-good : (a b start x c : ℕ) → x < t .rows → c < 4 → Joining t a b start x → leaves t a b x c ≡ true → Joining t a b start (across t x c)
   move-good a b start x c l m joining w =
-      let o = the-across x c l m in
+      let o = across-is paired x c l (rw four m) in
       let (na, nb) = leaves-reads t a b x c .0 w in
       let (ha, hb) = both-reads t a b x .0 (chain-ends joining .1) in
       rw (across-other t x c o) (chain-join joining (step (chain-ends joining) (neighbours-read t x (o .other) .1 (λ (e : x ≡ o .other). o .differs (sym e), (c, rw four m, o .is)))
@@ -71,7 +64,7 @@ module _ (t : Table) (four : t .corners ≡ 4) (up : (r : ℕ) → r < t .rows �
   way-out : (a b x : ℕ) → x < t .rows → (c : ℕ) × (c < 4) × (leaves t a b x c ≡ true)
   way-out a b x l =
       ⊎-elim (λ w. (0, lit< tt, w)) (λ off. ⊎-elim (λ w. (1, lit< tt, w)) (λ off′. ⊎-elim (λ w. (2, lit< tt, w)) (λ off″. absurd (three
-      (up x l 0 1 (lit< tt) (rw four (lit< tt))) (up x l 1 2 (lit< tt) (rw four (lit< tt))) (leaves-not t a b x 0 off) (leaves-not t a b x 1 off′) (leaves-not t a b x 2 off″)))
+      (paired .rising x l 0 1 (lit< tt) (rw four (lit< tt))) (paired .rising x l 1 2 (lit< tt) (rw four (lit< tt))) (leaves-not t a b x 0 off) (leaves-not t a b x 1 off′) (leaves-not t a b x 2 off″)))
       (true-or-false (leaves t a b x 2))) (true-or-false (leaves t a b x 1))) (true-or-false (leaves t a b x 0))
     where
       -- three different ids are not all a or b
@@ -89,7 +82,7 @@ module _ (t : Table) (four : t .corners ≡ 4) (up : (r : ℕ) → r < t .rows �
     where
       -- the row across a triangle that y holds is y
       is-across : x ≢ y → (c : ℕ) → c < 4 → Side t x c y → across t x c ≡ y
-      is-across ne c lc on = let o = the-across x c lx lc in across-other t x c o ∙ sym (o .only y ly on (λ (e : y ≡ x). ne (sym e)))
+      is-across ne c lc on = let o = across-is paired x c lx (rw four lc) in across-other t x c o ∙ sym (o .only y ly on (λ (e : y ≡ x). ne (sym e)))
 
       -- where the corner between them has the id a or b, row y holds all ids of x, and any way out will do
       apart : Neighbours t x y → Move t a b x y

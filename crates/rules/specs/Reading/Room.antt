@@ -21,7 +21,7 @@ use Rattle.rules.specs.Laws.Lists.{Among, Distinct, gather-same, gather-
 use Rattle.rules.specs.Laws.Places.{row-of, within-row, row-below}
 use Rattle.rules.specs.Reading.Rows.{one-corner}
 use Rattle.rules.specs.Reading.Neighbours.{Side, side-self, side-reads, sides, sides-back}
-use Rattle.rules.specs.Reading.Closed.{Closed, across-is, across-other}
+use Rattle.rules.specs.Reading.Closed.{Paired, across-is, across-other}
 use Rattle.rules.specs.Reading.Skin.{skin-reads, skin-between}
 
 module _ (t : Table) (inside : ℕ → Bool) where
@@ -41,7 +41,7 @@ module _ (t : Table) (inside : ℕ → Bool) where
   bit-le {a = true} f = rw (f refl) (le-refl (bit true))
   bit-le {a = false} f = rw (bit-zero {b = false} refl) zero-le
 
-  module _ {idCount : ℕ} (closed : Closed t idCount) where
+  module _ {idCount : ℕ} (paired : Paired t idCount) where
     -- row s is outside, and is the row across the triangle of row r that leaves out c
     outsideOf : ℕ → ℕ → ℕ → Bool
     outsideOf r c s = not (inside s) && (not (eqb s r) && side t r c s)
@@ -52,11 +52,11 @@ module _ (t : Table) (inside : ℕ → Bool) where
     listed-outside r c l m = ⊎-elim found-outside (λ f. rw (bit-zero f) zero-le) (true-or-false (listed r c))
       where
         o : TheOther (t .rows) (Side t r c) r
-        o = across-is closed r c l m
+        o = across-is paired r c l m
 
         outside : listed r c ≡ true → inside (o .other) ≡ false
         outside e = go (inside r) (inside (o .other)) (and-first (inside r) (onSkin t inside r c) e)
-            (sym (skin-between t inside closed r c l m ∙ ap (λ (s : ℕ). xor (inside r) (inside s)) (across-other t r c o)) ∙ and-second (inside r) (onSkin t inside r c) e)
+            (sym (skin-between t inside paired r c l m ∙ ap (λ (s : ℕ). xor (inside r) (inside s)) (across-other t r c o)) ∙ and-second (inside r) (onSkin t inside r c) e)
           where
             go : (a b : Bool) → a ≡ true → xor a b ≡ true → b ≡ false
             go true true p x = sym x
@@ -96,7 +96,7 @@ module _ (t : Table) (inside : ℕ → Bool) where
             apart : s ≢ r → sum (t .corners) (λ c. bit (shared r c s)) ≡ sum (t .corners) (λ d. bit (shared s d r))
             apart ne =
                 sum-same (t .corners) (λ c. bit (shared r c s)) (λ c. bit (side t r c s)) (λ c _. ap (λ (i : Bool). bit (not i && side t r c s)) (ne-eqb s r ne))
-                ∙ sides-back t r s (closed .rising r m) (closed .rising s l)
+                ∙ sides-back t r s (paired .rising r m) (paired .rising s l)
                 ∙ sum-same (t .corners) (λ d. bit (side t s d r)) (λ d. bit (shared s d r)) (λ d _. ap (λ (i : Bool). bit (not i && side t s d r)) (sym (ne-eqb r s (Ne·symm ne))))
 
         is-outside : inside s ≡ false → sum (t .rows) (λ r. sum (t .corners) (λ c. bit (outsideOf r c s))) ≤ sum (t .corners) (λ c. bit (not (inside s)))
@@ -110,7 +110,7 @@ module _ (t : Table) (inside : ℕ → Bool) where
           where
             one : (d : ℕ) → d < t .corners → sum (t .rows) (λ r. bit (shared s d r)) ≡ 1
             one d m =
-                let o = across-is closed s d l m in
+                let o = across-is paired s d l m in
                 one-count (t .rows) (shared s d) (record {
                   one = o .other;
                   below = o .below;
@@ -219,8 +219,8 @@ skin-words t inside four =
     ap length (x .ids-are) ∙ triangle-length t four (x .row) (x .corner) (subst (λ (n : ℕ). x .corner < n) four (x .corner-below)))
 
 -- and 6N words hold it
-pub skin-fits : (t : Table) (inside : ℕ → Bool) {idCount : ℕ} → Closed t idCount → t .corners ≡ 4 → length (flatten (skin t inside)) ≤ 6 * t .rows
-skin-fits t inside closed four = omega (arith, skin-words t inside four, at-most-2N t inside closed four)
+pub skin-fits : (t : Table) (inside : ℕ → Bool) {idCount : ℕ} → Paired t idCount → t .corners ≡ 4 → length (flatten (skin t inside)) ≤ 6 * t .rows
+skin-fits t inside paired four = omega (arith, skin-words t inside four, at-most-2N t inside paired four)
 
 -- ---- each triangle stands once
 
@@ -237,7 +237,7 @@ module _ (t : Table) (four : t .corners ≡ 4) (r c : ℕ) where
       let (l, p) = pick-in (t .corners) (λ k. not (eqb k c)) k i in
       (k, subst (λ (n : ℕ). k < n) four l, eqb-false k c (not-true (eqb k c) p), e)
 
-module _ (t : Table) (inside : ℕ → Bool) {idCount : ℕ} (closed : Closed t idCount) (four : t .corners ≡ 4) where
+module _ (t : Table) (inside : ℕ → Bool) {idCount : ℕ} (paired : Paired t idCount) (four : t .corners ≡ 4) where
   -- two inside rows have no skin triangle in common, and no row has one twice
   one-place : (r c s d : ℕ) → r < t .rows → c < 4 → s < t .rows → d < 4 → (inside r && onSkin t inside r c) ≡ true → (inside s && onSkin t inside s d) ≡ true
       → triangle t r c ≡ triangle t s d → (r ≡ s) × (c ≡ d)
@@ -254,7 +254,7 @@ module _ (t : Table) (inside : ℕ → Bool) {idCount : ℕ} (closed : Closed t 
       twice : c ≢ d → ⊥
       twice ne =
           let (k, lk, stays, q) = holds-triangle t four s d (t .id r d) (subst (λ (xs : List ℕ). Among (t .id r d) xs) e (triangle-holds t four r c d ld (Ne·symm ne))) in
-          stays (one-corner t (closed .rising s ls) k d (subst (λ (n : ℕ). k < n) (sym four) lk) (rw four ld) (q ∙ ap (λ (x : ℕ). t .id x d) row))
+          stays (one-corner t (paired .rising s ls) k d (subst (λ (n : ℕ). k < n) (sym four) lk) (rw four ld) (q ∙ ap (λ (x : ℕ). t .id x d) row))
 
   -- no triangle of the skin list stands twice
   pub skin-once : Distinct (skin t inside)

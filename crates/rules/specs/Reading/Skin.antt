@@ -14,7 +14,7 @@ use Rattle.rules.specs.Laws.Count.{ExactlyOne, one-map, ExactlyTwo, TheO
 use Rattle.rules.specs.Laws.Shape.{fourth-corner, two-others}
 use Rattle.rules.specs.Reading.Rows.{one-corner, Holds, holds-reads}
 use Rattle.rules.specs.Reading.Neighbours.{Side, side-reads, side-self}
-use Rattle.rules.specs.Reading.Closed.{Closed, across-other, across-is}
+use Rattle.rules.specs.Reading.Closed.{Paired, across-other, across-is}
 
 module _ (t : Table) (inside : ℕ → Bool) where
   -- ---- triangles on the skin
@@ -31,12 +31,12 @@ module _ (t : Table) (inside : ℕ → Bool) where
         (one-map (λ s (i, h). and-both i (side-reads t r c s .1 h)) (λ s q. (and-first (inside s) (side t r c s) q, side-reads t r c s .0 (and-second (inside s) (side t r c s) q))) x)),
   )
 
-  module _ {idCount : ℕ} (closed : Closed t idCount) where
+  module _ {idCount : ℕ} (paired : Paired t idCount) where
     -- the marks of the two rows that hold the triangle differ
     pub skin-between : (r c : ℕ) → r < t .rows → c < t .corners → onSkin t inside r c ≡ xor (inside r) (inside (across t r c))
     unfolding onSkin
     skin-between r c l m =
-        let o = across-is closed r c l m in
+        let o = across-is paired r c l m in
         one-side (t .rows) (side t r c) inside r l (side-reads t r c r .1 (side-self t r c)) (record {
           other = o .other;
           below = o .below;
@@ -62,7 +62,7 @@ module _ (t : Table) (inside : ℕ → Bool) where
     skin-between-sides r c l m = (λ e. forth (inside r) (inside (o .other)) refl refl (sym differ ∙ e), back)
       where
         o : TheOther (t .rows) (Side t r c) r
-        o = across-is closed r c l m
+        o = across-is paired r c l m
 
         differ : onSkin t inside r c ≡ xor (inside r) (inside (o .other))
         differ = skin-between r c l m ∙ ap (λ (s : ℕ). xor (inside r) (inside s)) (across-other t r c o)
@@ -245,10 +245,10 @@ module _ (t : Table) (four : t .corners ≡ 4) where
             at d one (x .one) (x .below) (three-reads v a b (x .one) .0 (and-second (inside (x .one)) (holdsThree t v a b (x .one)) (x .is)))
 
     -- v is on the skin exactly if a skin triangle holds it
-    pub skin-vertex-reads : {idCount : ℕ} → Closed t idCount → (v : ℕ)
+    pub skin-vertex-reads : {idCount : ℕ} → Paired t idCount → (v : ℕ)
         → (skinVertex t inside idCount v ≡ true) ↔ ((r : ℕ) × (c : ℕ) × (k : ℕ) × (r < t .rows) × (c < 4) × (k < 4) × (k ≢ c) × (onSkin t inside r c ≡ true) × (t .id r k ≡ v))
     unfolding skinVertex farEnd
-    skin-vertex-reads {idCount} closed v = (
+    skin-vertex-reads {idCount} paired v = (
       λ e.
           let (a, _, p) = any-some idCount (farEnd t inside idCount v) e in
           let (b, _, q) = any-some idCount (farEdge t inside v a) p in
@@ -260,8 +260,8 @@ module _ (t : Table) (four : t .corners ≡ 4) where
         other-corners : (r c k v : ℕ) → r < t .rows → c < 4 → k < 4 → k ≢ c → onSkin t inside r c ≡ true → t .id r k ≡ v
             → ExactlyTwo 4 (λ m. (m ≢ c) × (m ≢ k)) → any idCount (farEnd t inside idCount v) ≡ true
         other-corners r c k v lr lc lk ne on e x =
-            any-here idCount (farEnd t inside idCount v) (t .id r (x .one)) (closed .below r lr (x .one) (rw four (x .one-below)))
-            (any-here idCount (farEdge t inside v (t .id r (x .one))) (t .id r (x .two)) (closed .below r lr (x .two) (rw four (x .two-below)))
+            any-here idCount (farEnd t inside idCount v) (t .id r (x .one)) (paired .below r lr (x .one) (rw four (x .one-below)))
+            (any-here idCount (farEdge t inside v (t .id r (x .one))) (t .id r (x .two)) (paired .below r lr (x .two) (rw four (x .two-below)))
             (far-reads v (t .id r (x .one)) (t .id r (x .two)) .1 (record {
               row = r;
               corner = c;
@@ -290,7 +290,7 @@ module _ (t : Table) (four : t .corners ≡ 4) where
             })))
           where
             same : (i j : ℕ) → i < 4 → j < 4 → t .id r i ≡ t .id r j → i ≡ j
-            same i j li lj q = one-corner t (closed .rising r lr) i j (rw four li) (rw four lj) q
+            same i j li lj q = one-corner t (paired .rising r lr) i j (rw four li) (rw four lj) q
 
 -- far edges have no direction
 pub far-back : (t : Table) (inside : ℕ → Bool) (v a b : ℕ) → farEdge t inside v a b ≡ farEdge t inside v b a

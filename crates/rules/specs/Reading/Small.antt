@@ -31,7 +31,7 @@ module _ (f : Form) (bytes : List ℕ) (lent : Lent) (four : f .corners ≡ 4) w
     accepted-triangles : run f bytes lent .triangles ≤ 2 * jobOf f bytes .table .rows
     unfolding accepted
     accepted-triangles =
-        rw is-accepted (at-most-2N (jobOf f bytes .table) (insideIn (finalOf (jobOf f bytes))) (accepted-closed f bytes lent z) (job-corners f bytes ∙ four))
+        rw is-accepted (at-most-2N (jobOf f bytes .table) (insideIn (finalOf (jobOf f bytes))) (accepted-closed f bytes lent z .paired) (job-corners f bytes ∙ four))
 
   -- a place is 0, a row or a vertex; that there are few of these is code 2, which comes before
   places : Places (λ place. place ≤ mostRows) (jobConditions f bytes lent)

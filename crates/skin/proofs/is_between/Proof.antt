@@ -1,6 +1,6 @@
 use borrow.Author.Needs.{needs}
 use mathlib.Core.Path.{_∙_}
-use Rattle.skin.specs.Ground.{between, unequal-xor}
+use Rattle.skin.specs.Between.{between, unequal-xor}
 use Rattle.skin.proofs.is_between.Statement.{statement}
 use Rattle.skin.proofs.is_between.Tie as tie
 

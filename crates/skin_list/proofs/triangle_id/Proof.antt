@@ -8,7 +8,7 @@ use Rattle.skin_list.proofs.triangle_id.Statement.{statement}
 use Rattle.skin_list.proofs.triangle_id.Tie as tie
 
 corner-of-requires : tie.Need-corner-of-requires
-corner-of-requires c κs = (search needs, search needs)
+corner-of-requires c κs = (search needs, search needs, search needs)
 
 id-at-requires : tie.Need-id-at-requires
 id-at-requires c κs = (search needs, rw (c .corner-of .ensures) (corner-below (c .before .before .args .corner) (c .before .before .args .k) (search needs) (search needs)))

@@ -1,4 +1,4 @@
-use Rattle.table.specs.Closed.{row-broken, rows-rise, order-broken, order-fine, frontOf}
+use Rattle.table.specs.Closed.{leftOf, row-broken, rows-ordered, order-broken, order-fine, zeros-left}
 use mathlib.Core.Path.{sym, _∙_}
 use borrow.Author.Needs.{needs}
 use Rattle.table.proofs.check.Statement.{statement}
@@ -9,9 +9,6 @@ bad-row-requires c κs = search needs
 
 enum-known-row : tie.Need-enum-known-row
 enum-known-row c = search needs
-
-mul-clear : tie.Need-mul-clear
-mul-clear c = search needs
 
 clear-requires : tie.Need-clear-requires
 clear-requires c κs = search needs
@@ -25,9 +22,6 @@ out-of-order-requires c κs = search needs
 enum-known-row-2 : tie.Need-enum-known-row-2
 enum-known-row-2 c = search needs
 
-mul-clear-2 : tie.Need-mul-clear-2
-mul-clear-2 c = search needs
-
 clear-requires-2 : tie.Need-clear-requires-2
 clear-requires-2 c κs = search needs
 
@@ -35,21 +29,21 @@ enum-told-2 : tie.Need-enum-told-2
 enum-told-2 c = search needs
 
 check-shared-requires : tie.Need-check-shared-requires
-check-shared-requires c κs = (rows-rise (c .before .before .before .before .before .before .before .before .before .args .rows .now) (c .before .before .before .before .before .before .before .before .before .args .ids) _ (c .before .before .before .before .before .before .bad-row .ensures) (c .before .before .before .before .enum-told .given .1) (c .before .before .before .before .before .before .before .before .before .pre .0), c .before .before .before .before .before .before .before .before .before .pre .1)
+check-shared-requires c κs = ((_, rows-ordered (c .before .before .before .before .before .before .before .before .before .args .rows .now) (c .before .before .before .before .before .before .before .before .before .args .ids) _ (c .before .before .before .before .before .before .bad-row .ensures) (c .before .before .before .before .enum-told .given .1) _ (c .before .before .before .out-of-order .ensures) (c .before .before .before .before .before .before .before .before .before .pre .0) (c .before .enum-told2 .given .1)), c .before .before .before .before .before .before .before .before .before .pre .1)
 
 same-length : tie.Need-same-length
 same-length c = search needs
 
 returns : tie.Need-returns
-unfolding frontOf
-returns c = (row-broken (c .before .before .before .before .before .before .before .before .before .before .args .rows .now) (c .before .before .before .before .before .before .before .before .before .before .args .ids) _ (c .before .before .before .before .before .before .before .bad-row .ensures) (c .before .before .before .before .before .row .given .1), c .before .before .clear .ensures)
+unfolding leftOf
+returns c = (row-broken (c .before .before .before .before .before .before .before .before .before .before .args .rows .now) (c .before .before .before .before .before .before .before .before .before .before .args .ids) _ (c .before .before .before .before .before .before .before .bad-row .ensures) (c .before .before .before .before .before .row .given .1), c .before .before .clear .ensures ∙ zeros-left (c .before .before .before .before .before .before .before .before .before .before .args .rows .now) (c .before .before .before .before .before .before .before .before .before .before .args .work .now) (c .before .before .before .before .before .before .before .before .before .before .pre .1))
 
 same-length-2 : tie.Need-same-length-2
 same-length-2 c = search needs
 
 returns-2 : tie.Need-returns-2
-unfolding frontOf
-returns-2 c = (order-broken (c .before .before .before .before .before .before .before .before .before .before .before .before .before .args .rows .now) (c .before .before .before .before .before .before .before .before .before .before .before .before .before .args .ids) _ (c .before .before .before .before .before .before .before .before .before .before .bad-row .ensures) (c .before .before .before .before .before .before .before .before .enum-told .given .1) _ (c .before .before .before .before .before .before .before .out-of-order .ensures) (c .before .before .before .before .before .row2 .given .1), c .before .before .clear2 .ensures)
+unfolding leftOf
+returns-2 c = (order-broken (c .before .before .before .before .before .before .before .before .before .before .before .before .before .args .rows .now) (c .before .before .before .before .before .before .before .before .before .before .before .before .before .args .ids) _ (c .before .before .before .before .before .before .before .before .before .before .bad-row .ensures) (c .before .before .before .before .before .before .before .before .enum-told .given .1) _ (c .before .before .before .before .before .before .before .out-of-order .ensures) (c .before .before .before .before .before .row2 .given .1), c .before .before .clear2 .ensures ∙ zeros-left (c .before .before .before .before .before .before .before .before .before .before .before .before .before .args .rows .now) (c .before .before .before .before .before .before .before .before .before .before .before .before .before .args .work .now) (c .before .before .before .before .before .before .before .before .before .before .before .before .before .pre .1))
 
 same-length-3 : tie.Need-same-length-3
 same-length-3 c = search needs
@@ -63,12 +57,10 @@ check-spec =
     (tie.spec
     bad-row-requires
     enum-known-row
-    mul-clear
     clear-requires
     enum-told
     out-of-order-requires
     enum-known-row-2
-    mul-clear-2
     clear-requires-2
     enum-told-2
     check-shared-requires

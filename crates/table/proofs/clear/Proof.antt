@@ -1,20 +1,20 @@
 use native.Mathlib.Omega.{arith}
 use lib.ListN.{length-set}
-use Rattle.rules.specs.Laws.Written.{written-none, cleared-more}
+use Rattle.rules.specs.Laws.Written.{written-none, written-whole, cleared-more}
 use Rattle.rules.specs.Job.{written}
 use borrow.Author.Needs.{needs}
-use lib.ListN.{length, replicate}
-use native.Mathlib.Nat.{le-antisymm}
+use lib.ListN.{length, replicate, length-replicate}
+use native.Mathlib.Nat.{le-refl, le-antisymm}
 use Prim.Native.Nat.{ℕ, _-_, _≤_}
 use mathlib.Core.Path.{_≡_, refl, ap, _∙_}
 use Rattle.table.proofs.clear.Statement.{statement}
 use Rattle.table.proofs.clear.Tie as tie
 
 abbrev Inv-loop : tie.InvT-loop
-Inv-loop work₀ n i₀ work i = (i ≤ n) × (length work ≡ length work₀) × (work ≡ written (replicate i 0) work₀)
+Inv-loop work₀ i₀ work i = (i ≤ length work₀) × (length work ≡ length work₀) × (work ≡ written (replicate i 0) work₀)
 
 abbrev μ-loop : tie.MeasureT-loop
-μ-loop work₀ n i₀ work i = n - i
+μ-loop work₀ i₀ work i = length work₀ - i
 
 loop-holds : tie.Need-loop-holds Inv-loop μ-loop
 loop-holds c = (search needs, refl, written-none _)
@@ -23,22 +23,23 @@ mul-work : tie.Need-mul-work Inv-loop μ-loop
 mul-work c = search needs
 
 slice-write-work : tie.Need-slice-write-work Inv-loop μ-loop
-slice-write-work c = omega (arith, c .before .before .pre)
+slice-write-work c = search needs
 
 add-i : tie.Need-add-i Inv-loop μ-loop
 add-i c = search needs
 
 loop-less : tie.Need-loop-less Inv-loop μ-loop
-loop-less c = search needs
+loop-less c = omega (arith, c .before .loop .inv .1)
 
 loop-again : tie.Need-loop-again Inv-loop μ-loop
-loop-again c = (search needs, rw length-set (c .before .loop .inv .1), rw (c .before .loop .inv .2) (cleared-more (c .before .loop .i) (c .before .before .args .work .now) (omega (arith, c .before .before .pre))))
+loop-again c = (omega (arith, c .before .loop .inv .1), rw length-set (c .before .loop .inv .1), rw (c .before .loop .inv .2) (cleared-more (c .before .loop .i) _ (omega (arith, c .before .loop .inv .1))))
 
 same-length : tie.Need-same-length Inv-loop μ-loop
 same-length c = c .before .loop .inv .1
 
 returns : tie.Need-returns Inv-loop μ-loop
-returns c = c .before .loop .inv .2 ∙ ap (λ (k : ℕ). written (replicate k 0) (c .before .before .args .work .now)) (le-antisymm (c .before .loop .inv .0) (c .loop-test .left))
+returns c = let whole = le-antisymm (c .before .loop .inv .0) (omega (arith, c .before .loop .inv .1)) in
+    c .before .loop .inv .2 ∙ ap (λ (k : ℕ). written (replicate k 0) (c .before .before .args .work .now)) whole ∙ written-whole _ _ (rw (length-replicate {A = ℕ} (length (c .before .before .args .work .now)) 0) (le-refl _))
 
 pub clear-spec : {M : Type 1} → statement M
 clear-spec =

@@ -1,4 +1,5 @@
-use Rattle.track.specs.Sections.{table-refused, standing, table-passed}
+use native.Mathlib.Nat.{le-refl}
+use Rattle.track.specs.Sections.{counted, table-refused, work-long, ready, table-passed}
 use borrow.Author.Needs.{needs}
 use Rattle.track.proofs.run_laid.Statement.{statement}
 use Rattle.track.proofs.run_laid.Tie as tie
@@ -22,7 +23,7 @@ part-rows-end : tie.Need-part-rows-end
 part-rows-end c = search needs
 
 check-requires : tie.Need-check-requires
-check-requires c κs = search needs
+check-requires c κs = (rw (counted (c .before .before .before .before .before .before .before .before .before .before .pre) (c .before .before .before .before .rows-at .ensures) (c .before .before .before .marks-at .ensures) (c .before .before .proposals-at .ensures)) (c .before .before .before .before .before .before .before .before .before .before .pre .few), rw (counted (c .before .before .before .before .before .before .before .before .before .before .pre) (c .before .before .before .before .rows-at .ensures) (c .before .before .before .marks-at .ensures) (c .before .before .proposals-at .ensures), c .before .before .before .before .before .before .before .before .before .before .pre .work-room) (le-refl _))
 
 of-table-requires : tie.Need-of-table-requires
 of-table-requires c κs = search needs
@@ -52,7 +53,9 @@ part-proposals-end : tie.Need-part-proposals-end
 part-proposals-end c = search needs
 
 run-closed-requires : tie.Need-run-closed-requires
-run-closed-requires c κs = standing (c .before .before .before .before .before .before .before .before .before .before .before .before .before .before .before .before .before .before .before .before .before .before .pre) (c .before .before .before .before .before .before .before .before .before .before .before .before .before .before .before .before .rows-at .ensures) (c .before .before .before .before .before .before .before .before .before .before .before .before .before .before .before .marks-at .ensures) (c .before .before .before .before .before .before .before .before .before .before .before .before .before .before .proposals-at .ensures) (c .before .before .before .before .before .before .before .before .before .before .before .check .result) (c .before .before .before .before .before .before .before .before .before .before .before .check .ensures .0) (c .before .before .before .before .before .before .before .before .of-table .ensures) (c .before .before .before .before .before .before .before .before .before .before .before .check .ensures .1) (c .before .before .before .before .before .before .if1 .left)
+run-closed-requires c κs = (ready (c .before .before .before .before .before .before .before .before .before .before .before .before .before .before .before .before .before .before .before .before .before .before .pre) (c .before .before .before .before .before .before .before .before .before .before .before .before .before .before .before .before .rows-at .ensures) (c .before .before .before .before .before .before .before .before .before .before .before .before .before .before .before .marks-at .ensures) (c .before .before .before .before .before .before .before .before .before .before .before .before .before .before .proposals-at .ensures) (c .before .before .before .before .before .before .before .before .before .before .before .check .result) (c .before .before .before .before .before .before .before .before .before .before .before .check .ensures .0) (c .before .before .before .before .before .before .before .before .of-table .ensures) (c .before .before .before .before .before .before .before .before .before .before .before .check .ensures .1) (c .before .before .before .before .before .before .if1 .left),
+    c .before .before .before .before .before .before .before .before .before .before .before .before .before .before .before .before .before .before .before .before .before .before .pre .few-ids,
+    work-long (c .before .before .before .before .before .before .before .before .before .before .before .before .before .before .before .before .before .before .before .before .before .before .pre) (c .before .before .before .before .before .before .before .before .before .before .before .before .before .before .before .before .rows-at .ensures) (c .before .before .before .before .before .before .before .before .before .before .before .before .before .before .before .marks-at .ensures) (c .before .before .before .before .before .before .before .before .before .before .before .before .before .before .proposals-at .ensures) (c .before .before .before .before .before .before .before .before .before .before .before .check .result) (c .before .before .before .before .before .before .before .before .before .before .before .check .ensures .0) (c .before .before .before .before .before .before .before .before .of-table .ensures) (c .before .before .before .before .before .before .before .before .before .before .before .check .ensures .1) (c .before .before .before .before .before .before .if1 .left))
 
 same-length-2 : tie.Need-same-length-2
 same-length-2 c = search needs

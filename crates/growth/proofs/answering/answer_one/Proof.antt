@@ -40,8 +40,8 @@ mark-of-requires c κs = search needs
 set-mark-requires : tie.Need-set-mark-requires
 set-mark-requires c κs = λ e. rw (c .before .before .before .before .before .before .before .before .before .before .before .pre .1) (given-row (tableIn (c .before .before .before .before .before .before .before .before .before .before .before .args .rows .now)) (c .before .before .before .before .before .before .before .before .before .before .before .args .marks .now) (c .before .before .before .before .before .before .before .before .before .before .before .args .proposals .now) (c .before .before .before .before .before .before .before .before .before .before .before .args .k) (c .before .before .before .before .before .word-at .ensures) (c .before .before .before .before .word-at2 .ensures) (c .before .before .answer .ensures) e)
 
-pick-requires : tie.Need-pick-requires
-pick-requires c κs = search needs
+choose-requires : tie.Need-choose-requires
+choose-requires c κs = search needs
 
 same-length : tie.Need-same-length
 same-length c = search needs
@@ -50,7 +50,7 @@ same-length-2 : tie.Need-same-length-2
 same-length-2 c = search needs
 
 returns : tie.Need-returns
-returns c = (taken-is (tableIn (c .before .before .before .before .before .before .before .before .before .before .before .before .before .before .before .args .rows .now)) (c .before .before .before .before .before .before .before .before .before .before .before .before .before .before .before .args .marks .now) (c .before .before .before .before .before .before .before .before .before .before .before .before .before .before .before .args .proposals .now) (c .before .before .before .before .before .before .before .before .before .before .before .before .before .before .before .args .k) (c .before .before .before .before .before .before .before .before .before .word-at .ensures) (c .before .before .before .before .before .before .before .before .word-at2 .ensures) (c .before .before .before .before .before .before .answer .ensures) (c .pick .ensures), ap (λ (a : ℕ). set (c .before .before .before .before .before .before .before .before .before .before .before .before .before .before .before .args .answers .now) (c .before .before .before .before .before .before .before .before .before .before .before .before .before .before .before .args .k) a) (given-is (tableIn (c .before .before .before .before .before .before .before .before .before .before .before .before .before .before .before .args .rows .now)) (c .before .before .before .before .before .before .before .before .before .before .before .before .before .before .before .args .marks .now) (c .before .before .before .before .before .before .before .before .before .before .before .before .before .before .before .args .proposals .now) (c .before .before .before .before .before .before .before .before .before .before .before .before .before .before .before .args .k) (c .before .before .before .before .before .before .before .before .before .word-at .ensures) (c .before .before .before .before .before .before .before .before .word-at2 .ensures) (c .before .before .before .before .before .before .answer .ensures)), marks-are (tableIn (c .before .before .before .before .before .before .before .before .before .before .before .before .before .before .before .args .rows .now)) (c .before .before .before .before .before .before .before .before .before .before .before .before .before .before .before .args .marks .now) (c .before .before .before .before .before .before .before .before .before .before .before .before .before .before .before .args .proposals .now) (c .before .before .before .before .before .before .before .before .before .before .before .before .before .before .before .args .k) (c .before .before .before .before .before .before .before .before .before .word-at .ensures) (c .before .before .before .before .before .before .before .before .word-at2 .ensures) (c .before .before .before .before .before .before .answer .ensures) (c .before .before .before .before .before .mark-of .ensures) (c .before .before .before .set-mark .ensures))
+returns c = (taken-is (tableIn (c .before .before .before .before .before .before .before .before .before .before .before .before .before .before .before .args .rows .now)) (c .before .before .before .before .before .before .before .before .before .before .before .before .before .before .before .args .marks .now) (c .before .before .before .before .before .before .before .before .before .before .before .before .before .before .before .args .proposals .now) (c .before .before .before .before .before .before .before .before .before .before .before .before .before .before .before .args .k) (c .before .before .before .before .before .before .before .before .before .word-at .ensures) (c .before .before .before .before .before .before .before .before .word-at2 .ensures) (c .before .before .before .before .before .before .answer .ensures) (c .choose .ensures), ap (λ (a : ℕ). set (c .before .before .before .before .before .before .before .before .before .before .before .before .before .before .before .args .answers .now) (c .before .before .before .before .before .before .before .before .before .before .before .before .before .before .before .args .k) a) (given-is (tableIn (c .before .before .before .before .before .before .before .before .before .before .before .before .before .before .before .args .rows .now)) (c .before .before .before .before .before .before .before .before .before .before .before .before .before .before .before .args .marks .now) (c .before .before .before .before .before .before .before .before .before .before .before .before .before .before .before .args .proposals .now) (c .before .before .before .before .before .before .before .before .before .before .before .before .before .before .before .args .k) (c .before .before .before .before .before .before .before .before .before .word-at .ensures) (c .before .before .before .before .before .before .before .before .word-at2 .ensures) (c .before .before .before .before .before .before .answer .ensures)), marks-are (tableIn (c .before .before .before .before .before .before .before .before .before .before .before .before .before .before .before .args .rows .now)) (c .before .before .before .before .before .before .before .before .before .before .before .before .before .before .before .args .marks .now) (c .before .before .before .before .before .before .before .before .before .before .before .before .before .before .before .args .proposals .now) (c .before .before .before .before .before .before .before .before .before .before .before .before .before .before .before .args .k) (c .before .before .before .before .before .before .before .before .before .word-at .ensures) (c .before .before .before .before .before .before .before .before .word-at2 .ensures) (c .before .before .before .before .before .before .answer .ensures) (c .before .before .before .before .before .mark-of .ensures) (c .before .before .before .set-mark .ensures))
 
 pub answer-one-spec : {M : Type 1} → statement M
 answer-one-spec =
@@ -67,7 +67,7 @@ answer-one-spec =
     slice-write-answers
     mark-of-requires
     set-mark-requires
-    pick-requires
+    choose-requires
     same-length
     same-length-2
     returns)

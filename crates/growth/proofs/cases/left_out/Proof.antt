@@ -2,7 +2,7 @@ use Prim.Native.Nat.{_-_, _≤_}
 use native.Mathlib.Omega.{arith}
 use native.Mathlib.Nat.{le-antisymm}
 use borrow.Author.Needs.{needs}
-use Rattle.skin.specs.Ground.{between}
+use Rattle.skin.specs.Between.{between}
 use Rattle.growth.specs.Around.{Counted, corner-asked, counted-none, counted-small, counted-more}
 use Rattle.rules.specs.Below.{bit}
 use Rattle.rules.specs.Laws.Count.{bit-small}
@@ -21,15 +21,15 @@ loop-holds c = (search needs, counted-none)
 is-between-requires : tie.Need-is-between-requires Inv-loop μ-loop
 is-between-requires c κs = corner-asked (c .before .before .before .before .pre) _ (c .loop-test .taken)
 
-pick-requires : tie.Need-pick-requires Inv-loop μ-loop
-pick-requires c κs = tt
+choose-requires : tie.Need-choose-requires Inv-loop μ-loop
+choose-requires c κs = tt
 
 add-count : tie.Need-add-count Inv-loop μ-loop
 unfolding bit
-add-count c = omega (arith, c .pick .ensures, bit-small (c .before .is-between .result), counted-small (c .before .before .before .loop .inv .1))
+add-count c = omega (arith, c .choose .ensures, bit-small (c .before .is-between .result), counted-small (c .before .before .before .loop .inv .1))
 
-pick-requires-2 : tie.Need-pick-requires-2 Inv-loop μ-loop
-pick-requires-2 c κs = tt
+choose-requires-2 : tie.Need-choose-requires-2 Inv-loop μ-loop
+choose-requires-2 c κs = tt
 
 add-corner : tie.Need-add-corner Inv-loop μ-loop
 add-corner c = search needs
@@ -38,7 +38,7 @@ loop-less : tie.Need-loop-less Inv-loop μ-loop
 loop-less c = search needs
 
 loop-again : tie.Need-loop-again Inv-loop μ-loop
-loop-again c = (search needs, counted-more (c .before .before .before .before .loop .inv .1) (c .before .before .is-between .ensures) (c .before .pick .ensures) (c .pick2 .ensures))
+loop-again c = (search needs, counted-more (c .before .before .before .before .loop .inv .1) (c .before .before .is-between .ensures) (c .before .choose .ensures) (c .choose2 .ensures))
 
 returns : tie.Need-returns Inv-loop μ-loop
 returns c = rw (le-antisymm (c .loop-test .left) (c .before .loop .inv .0)) (c .before .loop .inv .1)
@@ -51,9 +51,9 @@ left-out-spec =
     μ-loop
     loop-holds
     is-between-requires
-    pick-requires
+    choose-requires
     add-count
-    pick-requires-2
+    choose-requires-2
     add-corner
     loop-less
     loop-again

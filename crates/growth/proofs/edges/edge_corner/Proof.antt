@@ -1,27 +1,18 @@
-use mathlib.Core.Path.{refl}
+use mathlib.Core.Path.{_∙_}
 use borrow.Author.Needs.{needs}
-use mathlib.Core.List.{flatten}
-use Rattle.rules.specs.Shape.{edgeTable}
-use Rattle.growth.specs.Edges.{edgeCorner}
+use native.Mathlib.Omega.{arith}
+use Rattle.growth.specs.Edges.{edge-corner-read}
 use Rattle.growth.proofs.edges.edge_corner.Statement.{statement}
 use Rattle.growth.proofs.edges.edge_corner.Tie as tie
 
-mul-result : tie.Need-mul-result
-mul-result c = search needs
+add-corner-of : tie.Need-add-corner-of
+add-corner-of c = search needs
 
-add-result : tie.Need-add-result
-add-result c = search needs
-
-mul-result-2 : tie.Need-mul-result-2
-mul-result-2 c = search needs
-
-array-read-result : tie.Need-array-read-result
-array-read-result c = search needs
+corner-of-requires : tie.Need-corner-of-requires
+corner-of-requires c κs = (omega (arith, c .pre .0), omega (arith, c .pre .1), c .pre .2)
 
 returns : tie.Need-returns
-unfolding edgeCorner edgeTable flatten
-returns c = refl
+returns c = c .corner-of .ensures ∙ edge-corner-read _ (c .before .pre .0) _ (c .before .pre .1)
 
 pub edge-corner-spec : {M : Type 1} → statement M
-edge-corner-spec =
-    tie.close (tie.spec mul-result add-result mul-result-2 array-read-result returns)
+edge-corner-spec = tie.close (tie.spec add-corner-of corner-of-requires returns)

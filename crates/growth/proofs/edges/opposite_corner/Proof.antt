@@ -1,27 +1,18 @@
-use mathlib.Core.Path.{refl}
+use mathlib.Core.Path.{ap, _∙_}
 use borrow.Author.Needs.{needs}
-use mathlib.Core.List.{flatten}
-use Rattle.rules.specs.Shape.{oppositeTable}
-use Rattle.growth.specs.Edges.{oppositeCorner}
+use Prim.Native.Nat.{ℕ}
+use Rattle.growth.specs.Edges.{edgeCorner, opposite-edge-below, opposite-corner-read}
 use Rattle.growth.proofs.edges.opposite_corner.Statement.{statement}
 use Rattle.growth.proofs.edges.opposite_corner.Tie as tie
 
-mul-result : tie.Need-mul-result
-mul-result c = search needs
+opposite-requires : tie.Need-opposite-requires
+opposite-requires c κs = search needs
 
-add-result : tie.Need-add-result
-add-result c = search needs
-
-mul-result-2 : tie.Need-mul-result-2
-mul-result-2 c = search needs
-
-array-read-result : tie.Need-array-read-result
-array-read-result c = search needs
+edge-corner-requires : tie.Need-edge-corner-requires
+edge-corner-requires c κs = (rw (c .opposite .ensures) (opposite-edge-below _ (c .before .pre .0)), c .before .pre .1, c .before .pre .2)
 
 returns : tie.Need-returns
-unfolding oppositeCorner oppositeTable flatten
-returns c = refl
+returns c = c .edge-corner .ensures ∙ ap (λ (e : ℕ). edgeCorner e (c .before .before .args .k)) (c .before .opposite .ensures) ∙ opposite-corner-read _ (c .before .before .pre .0) _ (c .before .before .pre .1)
 
 pub opposite-corner-spec : {M : Type 1} → statement M
-opposite-corner-spec =
-    tie.close (tie.spec mul-result add-result mul-result-2 array-read-result returns)
+opposite-corner-spec = tie.close (tie.spec opposite-requires edge-corner-requires returns)

@@ -5,23 +5,23 @@ use lib.Dec.{lit<}
 use borrow.Author.Needs.{needs}
 use borrow.Author.Tests.{not-true, not-false}
 use Rattle.rules.specs.Below.{any}
-use Rattle.skin.specs.Ground.{between}
+use Rattle.skin.specs.Between.{between}
 use Rattle.growth.specs.Edges.{inBoth, opposite-shared, unshared-more}
 use Rattle.growth.proofs.edges.shared_edge.Statement.{statement}
 use Rattle.growth.proofs.edges.shared_edge.Tie as tie
 
 abbrev Inv-loop : tie.InvT-loop
-Inv-loop neighbours marks row edge₀ edge = (edge < 6) × (any edge (inBoth (between neighbours marks row)) ≡ false)
+Inv-loop neighbours marks corners row edge₀ edge = (edge < 6) × (any edge (inBoth (between neighbours marks row)) ≡ false)
 
 abbrev μ-loop : tie.MeasureT-loop
-μ-loop neighbours marks row edge₀ edge = 6 - edge
+μ-loop neighbours marks corners row edge₀ edge = 6 - edge
 
 loop-holds : tie.Need-loop-holds Inv-loop μ-loop
 unfolding any
 loop-holds c = (lit< tt, refl)
 
 in-both-requires : tie.Need-in-both-requires Inv-loop μ-loop
-in-both-requires c κs = (c .before .before .before .pre .0, c .loop .inv .0)
+in-both-requires c κs = (c .before .before .before .pre .0, c .loop .inv .0, c .before .before .before .pre .2)
 
 add-edge : tie.Need-add-edge Inv-loop μ-loop
 add-edge c = search needs

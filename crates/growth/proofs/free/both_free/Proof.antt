@@ -1,3 +1,4 @@
+use native.Mathlib.Omega.{arith}
 use mathlib.Core.Path.{_≡_, refl, sym, _∙_}
 use mathlib.Core.Bool.{false}
 use Prim.Native.Nat.{_/_, _-_}
@@ -6,7 +7,7 @@ use borrow.Author.Needs.{needs}
 use Rattle.rules.specs.Below.{any}
 use Rattle.rules.specs.Cases.{otherSide}
 use Rattle.rules.specs.Proposals.{insideIn}
-use Rattle.table.specs.Rows.{tableIn}
+use Rattle.table.specs.Rows.{tableIn, rowsIn}
 use Rattle.growth.specs.Free.{touches, touched, untouched-more, untouched}
 use Rattle.growth.proofs.free.both_free.Statement.{statement}
 use Rattle.growth.proofs.free.both_free.Tie as tie
@@ -15,7 +16,10 @@ abbrev Inv-loop : tie.InvT-loop
 Inv-loop rows marks adding a b n row₀ row = any row (touches (tableIn rows) (otherSide adding (insideIn marks)) a b) ≡ false
 
 abbrev μ-loop : tie.MeasureT-loop
-μ-loop rows marks adding a b n row₀ row = length rows / 16 - row
+μ-loop rows marks adding a b n row₀ row = rowsIn rows - row
+
+row-count-requires : tie.Need-row-count-requires Inv-loop μ-loop
+row-count-requires c κs = search needs
 
 loop-holds : tie.Need-loop-holds Inv-loop μ-loop
 unfolding any
@@ -25,19 +29,19 @@ touches-requires : tie.Need-touches-requires Inv-loop μ-loop
 touches-requires c κs = search needs
 
 returns : tie.Need-returns Inv-loop μ-loop
-returns c = touched (tableIn (c .before .before .before .before .before .before .args .rows .now)) _ _ _ (c .before .before .before .loop .row) (c .before .before .loop-test .taken) (sym (c .before .touches .ensures) ∙ c .if1 .taken)
+returns c = touched (tableIn (c .before .before .before .before .before .before .before .args .rows .now)) _ _ _ (c .before .before .before .loop .row) (omega (arith, c .before .before .before .before .row-count .ensures, c .before .before .loop-test .taken)) (sym (c .before .touches .ensures) ∙ c .if1 .taken)
 
 add-row : tie.Need-add-row Inv-loop μ-loop
 add-row c = search needs
 
 loop-less : tie.Need-loop-less Inv-loop μ-loop
-loop-less c = search needs
+loop-less c = omega (arith, c .before .before .before .before .row-count .ensures, c .before .before .loop-test .taken)
 
 loop-again : tie.Need-loop-again Inv-loop μ-loop
-loop-again c = untouched-more (tableIn (c .before .before .before .before .before .before .args .rows .now)) _ _ _ (c .before .before .before .loop .row) (c .before .before .before .loop .inv) (sym (c .before .touches .ensures) ∙ c .if1 .left)
+loop-again c = untouched-more (tableIn (c .before .before .before .before .before .before .before .args .rows .now)) _ _ _ (c .before .before .before .loop .row) (c .before .before .before .loop .inv) (sym (c .before .touches .ensures) ∙ c .if1 .left)
 
 returns-2 : tie.Need-returns-2 Inv-loop μ-loop
-returns-2 c = untouched (tableIn (c .before .before .before .before .args .rows .now)) _ _ _ (c .before .loop .row) (c .before .loop .inv) (c .loop-test .left)
+returns-2 c = untouched (tableIn (c .before .before .before .before .before .args .rows .now)) _ _ _ (c .before .loop .row) (c .before .loop .inv) (omega (arith, c .before .before .row-count .ensures, c .loop-test .left))
 
 pub both-free-spec : {M : Type 1} → statement M
 both-free-spec =
@@ -45,6 +49,7 @@ both-free-spec =
     (tie.spec
     Inv-loop
     μ-loop
+    row-count-requires
     loop-holds
     touches-requires
     returns

@@ -8,13 +8,13 @@ use Rattle.table.proofs.chains.first_like.Statement.{statement}
 use Rattle.table.proofs.chains.first_like.Tie as tie
 
 abbrev Inv-loop : tie.InvT-loop
-Inv-loop rows base m head next place face q₀ q = Missed (tableIn rows) base m place q
+Inv-loop rows corners base m head next place face q₀ q = Missed (tableIn rows) base m place q
 
 abbrev μ-loop : tie.MeasureT-loop
-μ-loop rows base m head next place face q₀ q = place - q
+μ-loop rows corners base m head next place face q₀ q = place - q
 
 face-at-requires : tie.Need-face-at-requires Inv-loop μ-loop
-face-at-requires c κs = (c .before .pre .0, c .before .pre .2)
+face-at-requires c κs = (c .before .pre .0, c .before .pre .2, c .before .pre .4)
 
 key-of-requires : tie.Need-key-of-requires Inv-loop μ-loop
 key-of-requires c κs = tt
@@ -26,7 +26,7 @@ loop-holds : tie.Need-loop-holds Inv-loop μ-loop
 loop-holds c = rw (c .first-place .ensures, c .before .key-of .ensures, c .before .before .face-at .ensures) (miss-begins _ _ _ _ (c .before .before .before .before .pre .3))
 
 face-at-requires-2 : tie.Need-face-at-requires-2 Inv-loop μ-loop
-face-at-requires-2 c κs = (c .before .before .before .before .before .before .pre .0, omega (arith, c .before .before .before .before .before .before .pre .2))
+face-at-requires-2 c κs = (c .before .before .before .before .before .before .pre .0, omega (arith, c .before .before .before .before .before .before .pre .2), c .before .before .before .before .before .before .pre .4)
 
 same-ids-requires : tie.Need-same-ids-requires Inv-loop μ-loop
 same-ids-requires c κs = tt

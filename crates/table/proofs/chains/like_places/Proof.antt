@@ -3,25 +3,27 @@ use Rattle.table.specs.Faces.{key-below}
 use Rattle.table.specs.Walk.{Walked, walk-begins, walk-turn, walk-ends, walked-small, goes-on}
 use borrow.Author.Needs.{needs}
 use native.Mathlib.Omega.{arith}
-use lib.ListN.{length}
-use Prim.Native.Nat.{_*_, _-_, _/_}
+use Prim.Native.Nat.{_*_, _-_}
 use Rattle.rules.specs.Below.{bit}
 use Rattle.rules.specs.Laws.Count.{bit-small}
-use Rattle.table.specs.Rows.{tableIn}
+use Rattle.table.specs.Rows.{tableIn, rowsIn}
 use Rattle.table.proofs.chains.like_places.Statement.{statement}
 use Rattle.table.proofs.chains.like_places.Tie as tie
 
 abbrev Inv-loop : tie.InvT-loop
-Inv-loop rows base m head next place end face count₀ other₀ q₀ count other q = Walked (tableIn rows) base m place q count other
+Inv-loop rows corners base m head next place end face count₀ other₀ q₀ count other q = Walked (tableIn rows) base m place q count other
 
 abbrev μ-loop : tie.MeasureT-loop
-μ-loop rows base m head next place end face count₀ other₀ q₀ count other q = m * (length rows / 16) - q
+μ-loop rows corners base m head next place end face count₀ other₀ q₀ count other q = m * rowsIn rows - q
+
+row-count-requires : tie.Need-row-count-requires Inv-loop μ-loop
+row-count-requires c κs = search needs
 
 mul-end : tie.Need-mul-end Inv-loop μ-loop
-mul-end c = omega (arith, places-fit (c .before .pre .0) (c .before .pre .1))
+mul-end c = rw (c .row-count .ensures) (omega (arith, places-fit (c .before .before .pre .0) (c .before .before .pre .1)))
 
 face-at-requires : tie.Need-face-at-requires Inv-loop μ-loop
-face-at-requires c κs = (c .before .pre .0, c .before .pre .2)
+face-at-requires c κs = (c .before .before .pre .0, c .before .before .pre .2, c .before .before .pre .4)
 
 key-of-requires : tie.Need-key-of-requires Inv-loop μ-loop
 key-of-requires c κs = tt
@@ -30,35 +32,35 @@ first-place-requires : tie.Need-first-place-requires Inv-loop μ-loop
 first-place-requires c κs = rw (c .key-of .ensures) (key-below _)
 
 loop-holds : tie.Need-loop-holds Inv-loop μ-loop
-loop-holds c = rw (c .first-place .ensures, c .before .key-of .ensures, c .before .before .face-at .ensures) (walk-begins _ _ _ _ (c .before .before .before .before .pre .3))
+loop-holds c = rw (c .first-place .ensures, c .before .key-of .ensures, c .before .before .face-at .ensures) (walk-begins _ _ _ _ (c .before .before .before .before .before .pre .3))
 
 face-at-requires-2 : tie.Need-face-at-requires-2 Inv-loop μ-loop
-face-at-requires-2 c κs = (c .before .before .before .before .before .before .pre .0, search needs)
+face-at-requires-2 c κs = (c .before .before .before .before .before .before .before .pre .0, rw (c .before .before .before .before .before .row-count .ensures) at (c .loop-test .taken), c .before .before .before .before .before .before .before .pre .4)
 
 same-ids-requires : tie.Need-same-ids-requires Inv-loop μ-loop
 same-ids-requires c κs = tt
 
-pick-requires : tie.Need-pick-requires Inv-loop μ-loop
-pick-requires c κs = tt
+choose-requires : tie.Need-choose-requires Inv-loop μ-loop
+choose-requires c κs = tt
 
 add-count : tie.Need-add-count Inv-loop μ-loop
 unfolding bit
-add-count c = omega (arith, c .pick .ensures, bit-small (c .before .same-ids .result), walked-small _ _ _ _ _ _ _ (c .before .before .before .before .loop .inv), places-fit (c .before .before .before .before .before .before .before .before .before .pre .0) (c .before .before .before .before .before .before .before .before .before .pre .1))
+add-count c = omega (arith, c .choose .ensures, bit-small (c .before .same-ids .result), walked-small _ _ _ _ _ _ _ (c .before .before .before .before .loop .inv), places-fit (c .before .before .before .before .before .before .before .before .before .before .pre .0) (c .before .before .before .before .before .before .before .before .before .before .pre .1))
 
-pick-requires-2 : tie.Need-pick-requires-2 Inv-loop μ-loop
-pick-requires-2 c κs = tt
+choose-requires-2 : tie.Need-choose-requires-2 Inv-loop μ-loop
+choose-requires-2 c κs = tt
 
 next-place-requires : tie.Need-next-place-requires Inv-loop μ-loop
-next-place-requires c κs = omega (arith, places-fit (c .before .before .before .before .before .before .before .before .before .before .pre .0) (c .before .before .before .before .before .before .before .before .before .before .pre .1))
+next-place-requires c κs = omega (arith, rw (c .before .before .before .before .before .before .before .before .before .row-count .ensures) at (c .before .before .before .before .loop-test .taken), places-fit (c .before .before .before .before .before .before .before .before .before .before .before .pre .0) (c .before .before .before .before .before .before .before .before .before .before .before .pre .1))
 
 loop-less : tie.Need-loop-less Inv-loop μ-loop
-loop-less c = omega (arith, c .next-place .ensures, goes-on _ _ _ _ (c .before .before .before .before .before .before .before .before .before .before .before .pre .3) _ (c .before .before .before .before .before .loop-test .taken) (c .before .before .before .before .before .before .loop .inv .standing))
+loop-less c = omega (arith, rw (c .before .before .before .before .before .before .before .before .before .before .row-count .ensures) at (c .before .before .before .before .before .loop-test .taken), c .next-place .ensures, goes-on _ _ _ _ (c .before .before .before .before .before .before .before .before .before .before .before .before .pre .3) _ (rw (c .before .before .before .before .before .before .before .before .before .before .row-count .ensures) at (c .before .before .before .before .before .loop-test .taken)) (c .before .before .before .before .before .before .loop .inv .standing))
 
 loop-again : tie.Need-loop-again Inv-loop μ-loop
-loop-again c = walk-turn _ _ _ _ (c .before .before .before .before .before .before .before .before .before .before .before .pre .3) (c .before .before .before .before .before .loop-test .taken) (c .before .before .before .before .before .before .loop .inv) (c .before .before .before .before .before .before .before .before .before .face-at .ensures) (c .before .before .before .before .face-at2 .ensures) (c .before .before .before .same-ids .ensures) (c .before .before .pick .ensures) (c .before .pick2 .ensures) (c .next-place .ensures)
+loop-again c = walk-turn _ _ _ _ (c .before .before .before .before .before .before .before .before .before .before .before .before .pre .3) (rw (c .before .before .before .before .before .before .before .before .before .before .row-count .ensures) at (c .before .before .before .before .before .loop-test .taken)) (c .before .before .before .before .before .before .loop .inv) (c .before .before .before .before .before .before .before .before .before .face-at .ensures) (c .before .before .before .before .face-at2 .ensures) (c .before .before .before .same-ids .ensures) (c .before .before .choose .ensures) (c .before .choose2 .ensures) (c .next-place .ensures)
 
 returns : tie.Need-returns Inv-loop μ-loop
-returns c = walk-ends _ _ _ _ _ _ _ (c .loop-test .left) (c .before .loop .inv)
+returns c = walk-ends _ _ _ _ _ _ _ (rw (c .before .before .before .before .before .row-count .ensures) at (c .loop-test .left)) (c .before .loop .inv)
 
 pub like-places-spec : {M : Type 1} → statement M
 like-places-spec =
@@ -66,6 +68,7 @@ like-places-spec =
     (tie.spec
     Inv-loop
     μ-loop
+    row-count-requires
     mul-end
     face-at-requires
     key-of-requires
@@ -73,9 +76,9 @@ like-places-spec =
     loop-holds
     face-at-requires-2
     same-ids-requires
-    pick-requires
+    choose-requires
     add-count
-    pick-requires-2
+    choose-requires-2
     next-place-requires
     loop-less
     loop-again

@@ -1,24 +1,34 @@
-use Rattle.table.specs.Faces.{cornerOf, faceCorners}
+use mathlib.Core.Path.{ap, _∙_}
+use mathlib.Core.List.{List}
+use lib.ListN.{getD}
+use Prim.Native.Nat.{ℕ, _+_, _*_}
+use Rattle.table.specs.Faces.{cornerOf}
 use borrow.Author.Needs.{needs}
 use Rattle.table.proofs.faces.corner_of.Statement.{statement}
 use Rattle.table.proofs.faces.corner_of.Tie as tie
 
-mul-corner : tie.Need-mul-corner
-mul-corner c = search needs
+mul-from-u8 : tie.Need-mul-from-u8
+mul-from-u8 c = search needs
 
-add-corner : tie.Need-add-corner
-add-corner c = search needs
+add-from-u8 : tie.Need-add-from-u8
+add-from-u8 c = search needs
 
-array-read-corner : tie.Need-array-read-corner
-array-read-corner c = search needs
+element-copy-out-from-u8 : tie.Need-element-copy-out-from-u8
+element-copy-out-from-u8 c = search needs
 
-corner-requires : tie.Need-corner-requires
-corner-requires c κs = search needs
+from-u8-requires : tie.Need-from-u8-requires
+from-u8-requires c κs = search needs
 
 returns : tie.Need-returns
-unfolding cornerOf faceCorners
-returns c = c .corner .ensures
+unfolding cornerOf
+returns c = c .from-u8 .ensures ∙ ap (λ (xs : List ℕ). getD xs (3 * c .before .before .args .face + c .before .before .args .k) 0) (c .before .before .pre .2)
 
 pub corner-of-spec : {M : Type 1} → statement M
 corner-of-spec =
-    tie.close (tie.spec mul-corner add-corner array-read-corner corner-requires returns)
+    tie.close
+    (tie.spec
+    mul-from-u8
+    add-from-u8
+    element-copy-out-from-u8
+    from-u8-requires
+    returns)

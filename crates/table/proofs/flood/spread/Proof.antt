@@ -5,17 +5,17 @@ use native.Mathlib.Omega.{arith}
 use Rattle.table.proofs.flood.spread.Statement.{statement}
 use Rattle.table.proofs.flood.spread.Tie as tie
 
-mul-wide : tie.Need-mul-wide
-mul-wide c = omega (arith, c .before .before .pre .2, few-reached (c .before .before .pre .0) _ _ _ _ (c .before .before .pre .3))
+mul-from-u16 : tie.Need-mul-from-u16
+mul-from-u16 c = omega (arith, c .before .before .pre .2, few-reached (c .before .before .pre .0 .1) _ _ _ _ (c .before .before .pre .3))
 
-element-copy-out-wide : tie.Need-element-copy-out-wide
-element-copy-out-wide c = omega (arith, c .before .before .pre .2, few-reached (c .before .before .pre .0) _ _ _ _ (c .before .before .pre .3))
+element-copy-out-from-u16 : tie.Need-element-copy-out-from-u16
+element-copy-out-from-u16 c = omega (arith, c .before .before .pre .2, few-reached (c .before .before .pre .0 .1) _ _ _ _ (c .before .before .pre .3))
 
-wide-requires : tie.Need-wide-requires
-wide-requires c κs = tt
+from-u16-requires : tie.Need-from-u16-requires
+from-u16-requires c κs = tt
 
 leave-by-requires : tie.Need-leave-by-requires
-leave-by-requires c κs = (c .before .before .before .before .before .before .pre .0, lit< tt, spread-begins (c .before .before .before .before .before .before .pre .3) (c .before .before .before .before .before .before .pre .1) (c .before .before .before .before .before .before .pre .2) (c .before .before .wide .ensures))
+leave-by-requires c κs = (c .before .before .before .before .before .before .pre .0, lit< tt, spread-begins (c .before .before .before .before .before .before .pre .3) (c .before .before .before .before .before .before .pre .1) (c .before .before .before .before .before .before .pre .2) (c .before .before .from-u16 .ensures))
 
 leave-by-requires-2 : tie.Need-leave-by-requires-2
 leave-by-requires-2 c κs = search needs
@@ -33,9 +33,9 @@ pub spread-spec : {M : Type 1} → statement M
 spread-spec =
     tie.close
     (tie.spec
-    mul-wide
-    element-copy-out-wide
-    wide-requires
+    mul-from-u16
+    element-copy-out-from-u16
+    from-u16-requires
     leave-by-requires
     leave-by-requires-2
     leave-by-requires-3

@@ -4,15 +4,19 @@ use Prim.Native.Nat.{_-_, _≤_}
 use borrow.Author.Needs.{needs}
 use Rattle.rules.specs.Below.{lowest}
 use Rattle.rules.specs.Laws.Below.{searched-more, search-stops, search-ends}
-use Rattle.table.specs.Rows.{tableIn, badRow}
+use Rattle.table.specs.Rows.{tableIn}
 use Rattle.table.proofs.rows.bad_row.Statement.{statement}
 use Rattle.table.proofs.rows.bad_row.Tie as tie
+use Rattle.rules.specs.Job.{badRow}
 
 abbrev Inv-loop : tie.InvT-loop
 Inv-loop rows ids n row₀ row = (row ≤ n) × (lowest row (badRow (tableIn rows) ids) ≡ none)
 
 abbrev μ-loop : tie.MeasureT-loop
 μ-loop rows ids n row₀ row = n - row
+
+row-count-requires : tie.Need-row-count-requires Inv-loop μ-loop
+row-count-requires c κs = search needs
 
 loop-holds : tie.Need-loop-holds Inv-loop μ-loop
 unfolding lowest
@@ -22,7 +26,7 @@ is-row-requires : tie.Need-is-row-requires Inv-loop μ-loop
 is-row-requires c κs = search needs
 
 returns : tie.Need-returns Inv-loop μ-loop
-returns c = sym (search-stops _ _ (badRow (tableIn (c .before .before .before .before .before .args .rows .now)) (c .before .before .before .before .before .args .ids)) (c .before .before .before .loop .inv .1) (search needs) (rw (← c .before .is-row .ensures) (c .if1 .taken)))
+returns c = sym (search-stops _ _ (badRow (tableIn (c .before .before .before .before .before .before .args .rows .now)) (c .before .before .before .before .before .before .args .ids)) (c .before .before .before .loop .inv .1) (search needs) (rw (← c .before .is-row .ensures) (c .if1 .taken)))
 
 add-row : tie.Need-add-row Inv-loop μ-loop
 add-row c = search needs
@@ -31,10 +35,10 @@ loop-less : tie.Need-loop-less Inv-loop μ-loop
 loop-less c = search needs
 
 loop-again : tie.Need-loop-again Inv-loop μ-loop
-loop-again c = (search needs, searched-more _ (badRow (tableIn (c .before .before .before .before .before .args .rows .now)) (c .before .before .before .before .before .args .ids)) (c .before .before .before .loop .inv .1) (rw (← c .before .is-row .ensures) (c .if1 .left)))
+loop-again c = (search needs, searched-more _ (badRow (tableIn (c .before .before .before .before .before .before .args .rows .now)) (c .before .before .before .before .before .before .args .ids)) (c .before .before .before .loop .inv .1) (rw (← c .before .is-row .ensures) (c .if1 .left)))
 
 returns-2 : tie.Need-returns-2 Inv-loop μ-loop
-returns-2 c = sym (search-ends _ _ (badRow (tableIn (c .before .before .before .args .rows .now)) (c .before .before .before .args .ids)) (c .before .loop .inv .1) (c .loop-test .left))
+returns-2 c = sym (search-ends _ _ (badRow (tableIn (c .before .before .before .before .args .rows .now)) (c .before .before .before .before .args .ids)) (c .before .loop .inv .1) (search needs))
 
 pub bad-row-spec : {M : Type 1} → statement M
 bad-row-spec =
@@ -42,6 +46,7 @@ bad-row-spec =
     (tie.spec
     Inv-loop
     μ-loop
+    row-count-requires
     loop-holds
     is-row-requires
     returns

@@ -1,7 +1,7 @@
 -- `table::view::id_in` meets its contract: a walk of its MIR, by hand. The view is taken apart, and `id_in_bytes` is called on the slice and the numbers. All that the proof knows of `id_in_bytes` is that it meets its contract.
 -- The view is Copy: what it owns is had twice, one copy is kept whole for the exit, and of the other what `bytes` owns goes to the callee, beside the lifetime's token, which comes back.
 use mathlib.Core.Path.{_≡_, refl}
-use Prim.Native.Nat.{ℕ, _/_, _<_, _^_}
+use Prim.Native.Nat.{ℕ, _<_, _^_}
 use mathlib.Core.List.{[], _∷_}
 use lib.Dec.{T as Holds}
 use lib.ListN.{length}
@@ -41,7 +41,7 @@ use denote.Triple.Table.{entered, cited}
 use denote.Triple.Walked.{says, needs, Stays, stay-none, walkOf, goes-none, Walks, ends-at, walked, walk-meets}
 use denote.Exit.{yes}
 use denote.Triple.Clauses.{ensured, lasts}
-use Rattle.table.specs.Rows.{idIn}
+use Rattle.table.specs.Rows.{idIn, rowsIn}
 use Rattle.table.specs.declared.view.RowView.{RowView}
 use Rattle.table.proofs.view.RowView as T
 use Rattle.table.proofs.view.RowView.Laws as T′
@@ -110,7 +110,7 @@ module _ {M : Type 1} (𝓤 : URA M) (H : Heap 𝓤) (A : Atoms 𝓤) (W : Given
   to = (((κ, tt), (q, tt), tt, given-on, passed), tt)
 
   abbrev Within : Type 0
-  Within = (row < length (now (d .bytes)) / 16) × (corner < 4)
+  Within = (row < rowsIn (now (d .bytes))) × (corner < 4)
 
   asked : Within → ent 𝓤 (onEntry 𝓤 H A in-bytes.signature (κ, tt) (q, tt) given-on passed) (InBytes 𝓤 H A mem run .pre to)
   asked within = qed W ((‵ (flft κ q) ⊛ ‵ ftrue) ∷ ‵ (owns (ShrSlice (named 0) κ u8 ∷ usize ∷ usize ∷ []) given-on passed) ∷ []) ∵ says ! within $ frame ! $ done !

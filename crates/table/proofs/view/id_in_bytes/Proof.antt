@@ -1,3 +1,4 @@
+use Rattle.table.specs.Rows.{rowsIn}
 use mathlib.Core.Path.{sym, _∙_}
 use Rattle.table.specs.Rows.{id-word}
 use borrow.Author.Needs.{needs}
@@ -5,15 +6,18 @@ use Rattle.table.proofs.view.id_in_bytes.Statement.{statement}
 use Rattle.table.proofs.view.id_in_bytes.Tie as tie
 
 mul-word-at : tie.Need-mul-word-at
+unfolding rowsIn
 mul-word-at c = search needs
 
 mul-word-at-2 : tie.Need-mul-word-at-2
 mul-word-at-2 c = search needs
 
 add-word-at : tie.Need-add-word-at
+unfolding rowsIn
 add-word-at c = search needs
 
 word-at-requires : tie.Need-word-at-requires
+unfolding rowsIn
 word-at-requires c κs = search needs
 
 cast-result : tie.Need-cast-result
