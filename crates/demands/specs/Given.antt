@@ -19,7 +19,7 @@ module _ (bytes : List ℕ) (before : Lent) {o : Outcome} {after : Lent} (ran : 
   pub code-is : o .code ≡ run track bytes before .code
   code-is = ap (λ (r : Result). r .code) ran
 
-  pub place-is : o .place ≡ run track bytes before .place
+  place-is : o .place ≡ run track bytes before .place
   place-is = ap (λ (r : Result). r .place) ran
 
   pub left-is : after ≡ run track bytes before .left

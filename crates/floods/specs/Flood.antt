@@ -26,21 +26,21 @@ stamped k stamp y = eqb (getD stamp y 0) k
 -- ---- one more stamp
 
 module _ (k : ℕ) (stamp : List ℕ) (y : ℕ) (room : y < length stamp) where
-  pub stamp-same : stamped k (set stamp y k) y ≡ true
+  stamp-same : stamped k (set stamp y k) y ≡ true
   unfolding stamped
   stamp-same = eq-eqb (getD (set stamp y k) y 0) k (getD-set-same stamp y k 0 room)
 
-  pub stamp-other : (z : ℕ) → z ≢ y → stamped k (set stamp y k) z ≡ stamped k stamp z
+  stamp-other : (z : ℕ) → z ≢ y → stamped k (set stamp y k) z ≡ stamped k stamp z
   unfolding stamped
   stamp-other z ne = ap (λ (v : ℕ). eqb v k) (getD-set-other stamp y z k 0 ne)
 
-  pub stamp-keeps : (z : ℕ) → stamped k stamp z ≡ true → stamped k (set stamp y k) z ≡ true
+  stamp-keeps : (z : ℕ) → stamped k stamp z ≡ true → stamped k (set stamp y k) z ≡ true
   stamp-keeps z t = ⊎-elim (λ (e : z ≡ y). rw e stamp-same) (λ ne. stamp-other z ne ∙ t) (same-or-not z y)
 
-  pub stamp-either : (z : ℕ) → stamped k (set stamp y k) z ≡ true → (z ≡ y) ⊎ (stamped k stamp z ≡ true)
+  stamp-either : (z : ℕ) → stamped k (set stamp y k) z ≡ true → (z ≡ y) ⊎ (stamped k stamp z ≡ true)
   stamp-either z t = ⊎-elim inl (λ ne. inr (sym (stamp-other z ne) ∙ t)) (same-or-not z y)
 
-  pub stamp-counted : (n : ℕ) → y < n → stamped k stamp y ≡ false → count n (stamped k (set stamp y k)) ≡ count n (stamped k stamp) + 1
+  stamp-counted : (n : ℕ) → y < n → stamped k stamp y ≡ false → count n (stamped k (set stamp y k)) ≡ count n (stamped k stamp) + 1
   stamp-counted n l off =
       count-without n (stamped k (set stamp y k)) y l stamp-same
       ∙ ap (λ (m : ℕ). m + 1) (count-same n (without (stamped k (set stamp y k)) y) (stamped k stamp) (λ z _.
@@ -48,7 +48,7 @@ module _ (k : ℕ) (stamp : List ℕ) (y : ℕ) (room : y < length stamp) where
       (λ w. let (t, ne) = without-is (stamped k (set stamp y k)) y z w in sym (stamp-other z ne) ∙ t)
       (λ t. is-without (stamped k (set stamp y k)) y z (stamp-keeps z t) (λ (e : z ≡ y). not-both t (ap (stamped k stamp) e ∙ off)))))
 
-  pub stamp-low : (z : ℕ) → getD stamp z 0 ≤ k → getD (set stamp y k) z 0 ≤ k
+  stamp-low : (z : ℕ) → getD stamp z 0 ≤ k → getD (set stamp y k) z 0 ≤ k
   stamp-low z l = ⊎-elim (λ (e : z ≡ y). rw (e, getD-set-same stamp y k 0 room) (omega arith)) (λ ne. rw (getD-set-other stamp y z k 0 ne) l) (same-or-not z y)
 
 -- ---- the flood

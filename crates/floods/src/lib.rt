@@ -25,4 +25,3 @@ pub fn visit(
     }
     tail
 }
-

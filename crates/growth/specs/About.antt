@@ -9,7 +9,7 @@ use Rattle.rules.specs.Table.{Table, across}
 use Rattle.rules.specs.Cases.{otherSide}
 use Rattle.rules.specs.Laws.Truth.{not-both, is-false, and-first, and-second, and-both, or-either, or-no-first, or-no-second, same-or-not}
 use Rattle.rules.specs.Laws.Below.{none-any}
-use Rattle.rules.specs.Reading.Rows.{one-corner}
+use Rattle.rules.specs.Reading.Rows.{ids-differ}
 use Rattle.rules.specs.Reading.Closed.{Paired, Closed}
 use Rattle.rules.specs.Reading.Moves.{At, both, both-reads, leaves-reads}
 use Rattle.round.specs.Edge.{Near, Turning, Turned, near-at, turn-whole}
@@ -78,15 +78,15 @@ module _ {t : Table} {idCount : ℕ} (closed : Closed t idCount) (four : t .corn
 -- ---- an edge of a row, by three of its corners
 
 module _ {t : Table} {idCount : ℕ} (paired : Paired t idCount) (four : t .corners ≡ 4) (r : ℕ) (l : r < t .rows) where
-  ids-differ : (i j : ℕ) → i < 4 → j < 4 → i ≢ j → t .id r i ≢ t .id r j
-  ids-differ i j li lj ne e = ne (one-corner t (paired .rising r l) i j (rw four li) (rw four lj) e)
+  differ : (i j : ℕ) → i < 4 → j < 4 → i ≢ j → t .id r i ≢ t .id r j
+  differ i j li lj = ids-differ t (paired .rising r l) (rw four li) (rw four lj)
 
   pub edge-start : (i j k : ℕ) → i < 4 → j < 4 → k < 4 → (i ≢ j) × (k ≢ i) × (k ≢ j)
       → Beside t (t .id r i) (t .id r j) (across t r k) r
   edge-start i j k li lj lk (ij, ki, kj) = record {
-    edge = ids-differ i j li lj ij;
+    edge = differ i j li lj ij;
     near = (
       (l, both-reads t (t .id r i) (t .id r j) r .1 ((i, rw four li, refl), (j, rw four lj, refl))),
-      (k, lk, leaves-reads t (t .id r i) (t .id r j) r k .1 (ids-differ k i lk li ki, ids-differ k j lk lj kj), refl),
+      (k, lk, leaves-reads t (t .id r i) (t .id r j) r k .1 (differ k i lk li ki, differ k j lk lj kj), refl),
     );
   }

@@ -51,7 +51,7 @@ module _ (t : Table) (marks : List ℕ) (p : Proposal) where
   answer-is = five-tests _ _ _ _ _
 
   -- a proposal that is taken names a row
-  pub taken-row : answer t marks p ≡ 0 → p .row < t .rows
+  taken-row : answer t marks p ≡ 0 → p .row < t .rows
   taken-row e =
       ⊎-elim (ltb-true (p .row) (t .rows)) (λ (off : ltb (p .row) (t .rows) ≡ false). let one : answer t marks p ≡ 1 = answer-is ∙ rw off in absurd (omega arith))
       (true-or-false (ltb (p .row) (t .rows)))

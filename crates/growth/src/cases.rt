@@ -11,7 +11,7 @@ use table::faces::corner_table;
 use table::id_at;
 use values::choose;
 ghost use mathlib.Core.Path.{_≡_};
-ghost use Prim.Native.Nat.{_/_, _≤_, _<_};
+ghost use Prim.Native.Nat.{_≤_, _<_};
 ghost use lib.ListN.{length};
 ghost use Rattle.rules.specs.Below.{count, pick};
 ghost use Rattle.rules.specs.Cases.{otherSide, free, passes};

@@ -37,13 +37,7 @@ pub(crate) fn opposite_corner(corners: &[u8; 42], edge: usize, k: usize) -> usiz
 }
 
 // An edge is in each skin triangle of the row: none leaves out one of its corners.
-fn in_both(
-    neighbours: &[u32],
-    marks: &[u8],
-    corners: &[u8; 42],
-    row: usize,
-    edge: usize,
-) -> bool
+fn in_both(neighbours: &[u32], marks: &[u8], corners: &[u8; 42], row: usize, edge: usize) -> bool
     requires { ⌜ Surrounded (now neighbours) (now marks) row × (edge < 6) × (now corners ≡ faceCorners) ⌝ }
     ensures { λ r. ⌜ r ≡ inBoth (between (now (neighbours .entry)) (now (marks .entry)) row) edge ⌝ }
 {
@@ -52,12 +46,7 @@ fn in_both(
 }
 
 // The position of the edge that two skin triangles share. The edge opposite it is in neither.
-pub(crate) fn shared_edge(
-    neighbours: &[u32],
-    marks: &[u8],
-    corners: &[u8; 42],
-    row: usize,
-) -> usize
+pub(crate) fn shared_edge(neighbours: &[u32], marks: &[u8], corners: &[u8; 42], row: usize) -> usize
     requires { ⌜ Surrounded (now neighbours) (now marks) row × (count 4 (between (now neighbours) (now marks) row) ≡ 2) × (now corners ≡ faceCorners) ⌝ }
     ensures { λ r. ⌜ (r < 6) × (pick 4 (between (now (neighbours .entry)) (now (marks .entry)) row) ≡ oppositeCorner r 0 ∷ oppositeCorner r 1 ∷ []) ⌝ }
 {

@@ -23,11 +23,11 @@ use Rattle.lines.specs.Listing.{answerLine, answerLines, triangleLine, t
 use Rattle.lines.specs.Put.{Put, put-front}
 
 -- P, if the header is laid out
-abbrev pub proposalsIn : Reading → ℕ
-proposalsIn Short = 0
-proposalsIn Limits = 0
-proposalsIn Layout = 0
-proposalsIn (Laid h) = h .proposals
+abbrev pub proposalsRead : Reading → ℕ
+proposalsRead Short = 0
+proposalsRead Limits = 0
+proposalsRead Layout = 0
+proposalsRead (Laid h) = h .proposals
 
 -- the listing of a job at the front of a buffer
 pub listed : (job : List ℕ) {text out out′ : List ℕ} {n : ℕ} → text ≡ listingOf job → Put text out 0 out′ n → n ≤ length out
@@ -58,9 +58,9 @@ module _ (job : List ℕ) {o : Outcome} {answers marks triangles work : List ℕ
     few-triangles = omega (arith, ap (λ (r : Result). r .triangles) is-run, triangles-small track job zeros refl)
 
     -- p was read from the header
-    module _ {p : ℕ} (ep : p ≡ proposalsIn (readingOf job)) where
+    module _ {p : ℕ} (ep : p ≡ proposalsRead (readingOf job)) where
       the-proposals : p ≡ headerOf job .proposals
-      the-proposals = ep ∙ ap proposalsIn laid
+      the-proposals = ep ∙ ap proposalsRead laid
 
       few-proposals : p ≤ mostProposals
       few-proposals = rw the-proposals (accepted-header track job zeros ran .0 .1 .1)

@@ -19,7 +19,7 @@ sets-append (x ∷ xs) ys d at =
     ap (λ (n : ℕ). sets (sets (set d at x) (suc at) xs) n ys) (add-suc at (length xs) ∙ sym (suc-add at (length xs)))
     ∙ sets-append xs ys (set d at x) (suc at)
 
-pub put-none : (d : List ℕ) (at : ℕ) → Put [] d at d at
+put-none : (d : List ℕ) (at : ℕ) → Put [] d at d at
 put-none d at = record { behind = sym (add-zero at); is = refl }
 
 pub put-more : {xs ys d d′ d″ : List ℕ} {at n m : ℕ} → Put xs d at d′ n → Put ys d′ n d″ m → Put (xs ++ ys) d at d″ m

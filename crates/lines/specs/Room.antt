@@ -14,7 +14,7 @@ use Rattle.lines.specs.Decimal.{few-digits}
 use Rattle.lines.specs.Lines.{line-length}
 
 -- each number is below a bound
-abbrev pub EachBelow : ℕ → List ℕ → Type 0
+abbrev EachBelow : ℕ → List ℕ → Type 0
 EachBelow most [] = Unit
 EachBelow most (n ∷ ns) = (n < most) × EachBelow most ns
 
@@ -24,7 +24,7 @@ spaced-few k [] each = omega arith
 spaced-few k (n ∷ ns) each = omega (arith, length-append (32 ∷ decimal n) (spaced ns), few-digits k n (each .0), spaced-few k ns (each .1))
 
 -- numbers of at most k + 1 digits, each with its space
-pub line-few : (k : ℕ) (word ns : List ℕ) → EachBelow (10 ^ suc k) ns → length (line word ns) ≤ length word + (k + 2) * length ns + 1
+line-few : (k : ℕ) (word ns : List ℕ) → EachBelow (10 ^ suc k) ns → length (line word ns) ≤ length word + (k + 2) * length ns + 1
 line-few k word ns each = omega (arith, line-length word ns, spaced-few k ns each)
 
 -- the first line of a listing

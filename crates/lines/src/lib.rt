@@ -14,7 +14,7 @@ ghost use Rattle.rules.specs.Job.{written};
 ghost use Rattle.job.specs.Reading.{readingOf};
 ghost use Rattle.lines.specs.Listing.{refusedText, listingOf};
 ghost use Rattle.lines.specs.Put.{Put};
-ghost use Rattle.lines.specs.Listed.{proposalsIn};
+ghost use Rattle.lines.specs.Listed.{proposalsRead};
 
 // Bytes enough for every listing: a first line of 68 at most, 1,024 proposals of 12 and 4,096 triangles of 35.
 pub const ROOM: usize = 163840;
@@ -29,7 +29,7 @@ fn put_refused(code: usize, place: usize, out: &mut [u8]) -> usize
 
 // P of a job that is laid out.
 fn proposals_of(job: &[u8]) -> usize
-    ensures { λ r. ⌜ r ≡ proposalsIn (readingOf (now (job .entry))) ⌝ }
+    ensures { λ r. ⌜ r ≡ proposalsRead (readingOf (now (job .entry))) ⌝ }
 {
     match read(job) {
         Reading::Short => 0,

@@ -10,7 +10,7 @@ use Rattle.rules.specs.Table.{Table, holds}
 use Rattle.rules.specs.Skin.{onSkin, farEdge}
 use Rattle.rules.specs.Laws.Truth.{true-or-false, not-both, same-or-not}
 use Rattle.rules.specs.Laws.Shape.{two-others}
-use Rattle.rules.specs.Reading.Rows.{one-corner, Holds, holds-reads}
+use Rattle.rules.specs.Reading.Rows.{ids-differ, Holds, holds-reads}
 use Rattle.rules.specs.Reading.Closed.{Closed}
 use Rattle.rules.specs.Reading.Skin.{Different, skin-far}
 use Rattle.manifold.specs.Facet.{FlipAt, flip-back}
@@ -61,7 +61,7 @@ four-at i li = ⊎-elim (λ (e : i ≡ 0). from 1 (lit< tt) (λ (q : i ≡ 1). o
     from j lj ij = let (k, l, o) = four-from i j li lj ij in (j, k, l, o)
 
 -- two corners next to each other change places
-pub swap-jk : {i j k l : ℕ} → Four i j k l → Four i k j l
+swap-jk : {i j k l : ℕ} → Four i j k l → Four i k j l
 swap-jk o = record {
   i-below = o .i-below;
   j-below = o .k-below;
@@ -76,7 +76,7 @@ swap-jk o = record {
   only = λ m lm. ⊎-elim inl (⊎-elim (λ e. inr (inr (inl e))) (⊎-elim (λ e. inr (inl e)) (λ e. inr (inr (inr e))))) (o .only m lm);
 }
 
-pub swap-ij : {i j k l : ℕ} → Four i j k l → Four j i k l
+swap-ij : {i j k l : ℕ} → Four i j k l → Four j i k l
 swap-ij o = record {
   i-below = o .j-below;
   j-below = o .i-below;
@@ -91,7 +91,7 @@ swap-ij o = record {
   only = λ m lm. ⊎-elim (λ e. inr (inl e)) (⊎-elim inl (λ e. inr (inr e))) (o .only m lm);
 }
 
-pub swap-kl : {i j k l : ℕ} → Four i j k l → Four i j l k
+swap-kl : {i j k l : ℕ} → Four i j k l → Four i j l k
 swap-kl o = record {
   i-below = o .i-below;
   j-below = o .j-below;
@@ -127,8 +127,8 @@ module _ (t : Table) (four : t .corners ≡ 4) {idCount : ℕ} (closed : Closed 
   corner : {c : ℕ} → c < 4 → c < t .corners
   corner {c} l = subst (λ (n : ℕ). c < n) (sym four) l
 
-  ids-differ : {i j : ℕ} → i < 4 → j < 4 → i ≢ j → t .id r i ≢ t .id r j
-  ids-differ {i} {j} li lj ne e = ne (one-corner t (closed .paired .rising r lr) i j (corner li) (corner lj) e)
+  differ : {i j : ℕ} → i < 4 → j < 4 → i ≢ j → t .id r i ≢ t .id r j
+  differ li lj = ids-differ t (closed .paired .rising r lr) (corner li) (corner lj)
 
   -- ---- at the vertex of corner i
 
@@ -136,12 +136,12 @@ module _ (t : Table) (four : t .corners ≡ 4) {idCount : ℕ} (closed : Closed 
     -- its three far edges in the row
     vertex-corners : Corners (λ a. Holds t r a × (a ≢ t .id r i)) (t .id r j) (t .id r k) (t .id r l)
     vertex-corners = record {
-      first = ((j, corner (o .j-below), refl), ids-differ (o .j-below) (o .i-below) (Ne·symm (o .ij)));
-      second = ((k, corner (o .k-below), refl), ids-differ (o .k-below) (o .i-below) (Ne·symm (o .ik)));
-      third = ((l, corner (o .l-below), refl), ids-differ (o .l-below) (o .i-below) (Ne·symm (o .il)));
-      xy = ids-differ (o .j-below) (o .k-below) (o .jk);
-      yz = ids-differ (o .k-below) (o .l-below) (o .kl);
-      zx = ids-differ (o .l-below) (o .j-below) (Ne·symm (o .jl));
+      first = ((j, corner (o .j-below), refl), differ (o .j-below) (o .i-below) (Ne·symm (o .ij)));
+      second = ((k, corner (o .k-below), refl), differ (o .k-below) (o .i-below) (Ne·symm (o .ik)));
+      third = ((l, corner (o .l-below), refl), differ (o .l-below) (o .i-below) (Ne·symm (o .il)));
+      xy = differ (o .j-below) (o .k-below) (o .jk);
+      yz = differ (o .k-below) (o .l-below) (o .kl);
+      zx = differ (o .l-below) (o .j-below) (Ne·symm (o .jl));
       only = λ a ((m, lm, e), ne).
           ⊎-elim (λ (q : m ≡ i). absurd (ne (sym e ∙ ap (t .id r) q)))
           (⊎-elim (λ (q : m ≡ j). inl (sym e ∙ ap (t .id r) q)) (⊎-elim (λ (q : m ≡ k). inr (inl (sym e ∙ ap (t .id r) q))) (λ (q : m ≡ l). inr (inr (sym e ∙ ap (t .id r) q)))))
@@ -154,7 +154,7 @@ module _ (t : Table) (four : t .corners ≡ 4) {idCount : ℕ} (closed : Closed 
     -- the edge between j and k is a far edge exactly if the triangle that leaves out l is on the skin
     far-left : Left l ↔ Before i (t .id r j) (t .id r k)
     far-left =
-        let d : Different (t .id r i) (t .id r j) (t .id r k) = (ids-differ (o .i-below) (o .j-below) (o .ij), ids-differ (o .i-below) (o .k-below) (o .ik), ids-differ (o .j-below) (o .k-below) (o .jk)) in
+        let d : Different (t .id r i) (t .id r j) (t .id r k) = (differ (o .i-below) (o .j-below) (o .ij), differ (o .i-below) (o .k-below) (o .ik), differ (o .j-below) (o .k-below) (o .jk)) in
         let same : onSkin t inside r l ≡ farEdge t inside (t .id r i) (t .id r j) (t .id r k) =
         skin-far t four inside (record {
           first = i;

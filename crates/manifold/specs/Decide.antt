@@ -16,7 +16,7 @@ use Rattle.rules.specs.Reading.Answers.{OtherSide, Refuses, passes-reads}
 use Rattle.manifold.specs.Facet.{FlipAt, same-mark}
 use Rattle.manifold.specs.Ring.{Empty, End}
 use Rattle.manifold.specs.Triangle.{On, Skin, Rings, clean-rings}
-use Rattle.manifold.specs.Sides.{skin-at-vertex, skin-at-edge}
+use Rattle.manifold.specs.Sides.{below-four, skin-at-vertex, skin-at-edge}
 use Rattle.manifold.specs.Cases.{four-from, four-at, passes-0, needs-0, passes-1, needs-1, passes-2, needs-2, passes-more}
 
 -- two that pass are at least two
@@ -27,9 +27,6 @@ two-pass n p a b la lb ta tb ne =
 module _ (t : Table) (four : t .corners ≡ 4) {idCount : ℕ} (closed : Closed t idCount) {inside after : ℕ → Bool} {r : ℕ} (flip : FlipAt inside after r) (lr : r < t .rows)
     -- an add of an outside row, or a remove of an inside row
     (adding : Bool) (this-side : inside r ≡ not adding) where
-  below-four : {c : ℕ} → c < t .corners → c < 4
-  below-four {c} l = subst (λ (n : ℕ). c < n) four l
-
   below-corners : {c : ℕ} → c < 4 → c < t .corners
   below-corners {c} l = subst (λ (n : ℕ). c < n) (sym four) l
 
@@ -115,11 +112,11 @@ module _ (t : Table) (four : t .corners ≡ 4) {idCount : ℕ} (closed : Closed 
 
   refused : Rings t inside → Rings t after → Refuses t inside adding r → ⊥
   refused rings after-rings (inl (none, (c, l, (s, ls, o, h)))) =
-      case-0 rings (λ c l. none c (below-corners l)) .0 after-rings c (below-four l) s ls o h
+      case-0 rings (λ c l. none c (below-corners l)) .0 after-rings c (below-four t four l) s ls o h
   refused rings after-rings (inr (inl (x, (s, ls, o, h)))) =
-      case-1 rings (below-four (x .below)) (x .is) (λ c l. x .only c (below-corners l)) .0 after-rings s ls o h
+      case-1 rings (below-four t four (x .below)) (x .is) (λ c l. x .only c (below-corners l)) .0 after-rings s ls o h
   refused rings after-rings (inr (inr (x, (s, ls, o, h)))) =
-      case-2 rings (below-four (x .one-below)) (below-four (x .two-below)) (x .differ) (x .one-is) (x .two-is) (λ c l. x .only c (below-corners l)) .0 after-rings s ls o h
+      case-2 rings (below-four t four (x .one-below)) (below-four t four (x .two-below)) (x .differ) (x .one-is) (x .two-is) (λ c l. x .only c (below-corners l)) .0 after-rings s ls o h
 
   f : ℕ
   f = count (t .corners) (onSkin t inside r)
@@ -137,10 +134,10 @@ module _ (t : Table) (four : t .corners ≡ 4) {idCount : ℕ} (closed : Closed 
           case-0 rings (λ c l. none c (below-corners l)) .1 (λ c l s ls o h. free (inl (none, (c, below-corners l, (s, ls, o, h)))))
       by-f (inr _) (inl one) _ =
           let x = count-one (t .corners) (onSkin t inside r) one in
-          case-1 rings (below-four (x .below)) (x .is) (λ c l. x .only c (below-corners l)) .1 (λ s ls o h. free (inr (inl (x, (s, ls, o, h)))))
+          case-1 rings (below-four t four (x .below)) (x .is) (λ c l. x .only c (below-corners l)) .1 (λ s ls o h. free (inr (inl (x, (s, ls, o, h)))))
       by-f (inr _) (inr _) (inl two) =
           let x = count-two (t .corners) (onSkin t inside r) two in
-          case-2 rings (below-four (x .one-below)) (below-four (x .two-below)) (x .differ) (x .one-is) (x .two-is) (λ c l. x .only c (below-corners l)) .1
+          case-2 rings (below-four t four (x .one-below)) (below-four t four (x .two-below)) (x .differ) (x .one-is) (x .two-is) (λ c l. x .only c (below-corners l)) .1
           (λ s ls o h. free (inr (inr (x, (s, ls, o, h)))))
       by-f (inr n₀) (inr n₁) (inr n₂) =
           passes-more t four closed flip lr (λ a b la lb na nb.

@@ -1,7 +1,7 @@
 -- One facet (a triangle of a track, an edge of a flat plan), by the rows that hold it, whatever they hold else.
 use mathlib.Core.Path.{_≡_, refl, sym, ap, _∙_, subst}
 use mathlib.Core.Logic.{_⊎_, inl, inr, ⊎-elim, _↔_, _≢_}
-use mathlib.Core.Bool.{Bool, true, false, not, true≢false, false≢true}
+use mathlib.Core.Bool.{Bool, true, false, not, true≢false, false≢true, Bool·not-not}
 use Prim.Native.Nat.{ℕ, _<_}
 use Rattle.rules.specs.Laws.Truth.{same-or-not}
 use Rattle.rules.specs.Laws.Count.{TheOther}
@@ -15,11 +15,7 @@ pub record FlipAt (inside after : ℕ → Bool) (r : ℕ) : Type 0 where
 
 -- flipped back it is as it was
 pub flip-back : {inside after : ℕ → Bool} {r : ℕ} → FlipAt inside after r → FlipAt after inside r
-flip-back {inside} {after} {r} f = record { named = sym (twice (inside r)) ∙ ap not (sym (f .named)); others = λ s ne. sym (f .others s ne) }
-  where
-    twice : (b : Bool) → not (not b) ≡ b
-    twice true = refl
-    twice false = refl
+flip-back {inside} {after} {r} f = record { named = sym (Bool·not-not (inside r)) ∙ ap not (sym (f .named)); others = λ s ne. sym (f .others s ne) }
 
 pub same-mark : (a b : Bool) → (a ≡ b) ⊎ (a ≢ b)
 same-mark true true = inl refl
@@ -62,7 +58,7 @@ module _ (n : ℕ) (On : ℕ → Type 0) where
     holder : (x : ℕ) → x < n → On x → (x ≡ r) ⊎ (x ≡ o .other)
     holder x m h = ⊎-elim inl (λ ne. inr (o .only x m h ne)) (same-or-not x r)
 
-    pub split-differ : (inside : ℕ → Bool) → Split inside ↔ (inside r ≢ inside (o .other))
+    split-differ : (inside : ℕ → Bool) → Split inside ↔ (inside r ≢ inside (o .other))
     split-differ inside = (
       λ s e. s .marks-differ (mark e (s .one) (s .one-below) (s .one-on) ∙ sym (mark e (s .two) (s .two-below) (s .two-on))),
       λ ne. record { one = r; two = o .other; one-below = l; two-below = o .below; one-on = on; two-on = o .is; marks-differ = ne },

@@ -80,7 +80,7 @@ turn c = record {
   only = λ a h. ⊎-elim (λ e. inr (inr e)) (⊎-elim inl (λ e. inr (inl e))) (c .only a h);
 }
 
-pub swap : {T : ℕ → Type 0} {x y z : ℕ} → Corners T x y z → Corners T y x z
+swap : {T : ℕ → Type 0} {x y z : ℕ} → Corners T x y z → Corners T y x z
 swap c = record {
   first = c .second;
   second = c .first;
@@ -124,7 +124,7 @@ flips-second (inl (p, _)) n = absurd (n p)
 flips-second (inr (q, _)) n = q
 
 -- of exactly two, of which two are known, a third is one of them
-pub two-known : {P : ℕ → Type 0} → Two P → (p q : ℕ) → P p → P q → p ≢ q → (k : ℕ) → P k → (k ≡ p) ⊎ (k ≡ q)
+two-known : {P : ℕ → Type 0} → Two P → (p q : ℕ) → P p → P q → p ≢ q → (k : ℕ) → P k → (k ≡ p) ⊎ (k ≡ q)
 two-known t p q hp hq ne k hk = go (t .only p hp) (t .only q hq) (t .only k hk)
   where
     go : (p ≡ t .one) ⊎ (p ≡ t .two) → (q ≡ t .one) ⊎ (q ≡ t .two) → (k ≡ t .one) ⊎ (k ≡ t .two) → (k ≡ p) ⊎ (k ≡ q)

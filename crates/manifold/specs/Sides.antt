@@ -1,7 +1,7 @@
 -- Where rows of both sides meet there is skin. Walk from one to the other by neighbours: somewhere the mark changes, and the triangle
 -- between those two rows is on the skin. The vertex rule gives the walk about a vertex, and the edge rule that about an edge.
 use mathlib.Core.Path.{_≡_, refl, sym, ap, _∙_, subst}
-use mathlib.Core.Logic.{_⊎_, inl, inr, ⊎-elim, _≢_, Ne·symm}
+use mathlib.Core.Logic.{⊎-elim, _≢_, Ne·symm}
 use mathlib.Core.Bool.{Bool}
 use Prim.Native.Nat.{ℕ, _≤_, _<_}
 use native.Mathlib.Omega.{arith}
@@ -55,7 +55,7 @@ module _ (t : Table) where
   any-side {x} {c} {y} s h d k l _ = ⊎-elim (λ (e : k ≡ c). subst (λ (j : ℕ). Holds t y (t .id x j)) (sym e) h) (λ ne. s k l ne) (same-or-not k c)
 
   -- two neighbours that hold the id at corner i share a facet with that id
-  pub facet-with : {x y i : ℕ} → 2 ≤ t .corners → Neighbours t x y → Holds t y (t .id x i) → (c : ℕ) × (c < t .corners) × (c ≢ i) × Side t x c y
+  facet-with : {x y i : ℕ} → 2 ≤ t .corners → Neighbours t x y → Holds t y (t .id x i) → (c : ℕ) × (c < t .corners) × (c ≢ i) × Side t x c y
   facet-with {x} {y} {i} more (_, (c, l, s)) h = ⊎-elim same (λ ne. (c, l, ne, s)) (same-or-not c i)
     where
       same : c ≡ i → (d : ℕ) × (d < t .corners) × (d ≢ i) × Side t x d y
@@ -66,7 +66,7 @@ module _ (t : Table) where
 -- ---- the triangle between two neighbours
 
 module _ (t : Table) (four : t .corners ≡ 4) where
-  below-four : {c : ℕ} → c < t .corners → c < 4
+  pub below-four : {c : ℕ} → c < t .corners → c < 4
   below-four {c} l = subst (λ (n : ℕ). c < n) four l
 
   below-corners : {c : ℕ} → c < 4 → c < t .corners

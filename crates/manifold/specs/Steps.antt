@@ -1,7 +1,7 @@
 -- Proposals: each answer, every step, and backwards.
 use mathlib.Core.Path.{_≡_, refl, sym, ap, ap₂, _∙_, subst}
 use mathlib.Core.Logic.{_⊎_, inl, inr, ⊎-elim, _↔_, _≢_}
-use mathlib.Core.Bool.{Bool, true, false, not, cond}
+use mathlib.Core.Bool.{Bool, true, false, not, cond, Bool·not-not}
 use mathlib.Core.List.{List, [], _∷_, _++_, map, reverse, reverse-cons}
 use Prim.Native.Nat.{ℕ, zero, suc, _<_}
 use native.Mathlib.Nat.{lt-of-not-le, not-le-of-lt}
@@ -35,15 +35,11 @@ unfolding bit
 mark-of true = refl
 mark-of false = refl
 
-twice : (b : Bool) → not (not b) ≡ b
-twice true = refl
-twice false = refl
-
 flip-at : (marks : List ℕ) (p : Proposal) → p .row < length marks → insideIn marks (p .row) ≡ not (adds p)
     → FlipAt (insideIn marks) (insideIn (flipped marks p)) (p .row)
 unfolding insideIn
 flip-at marks p l e = record {
-  named = ap (λ (m : ℕ). eqb m 1) (getD-set-same marks (p .row) (bit (adds p)) 0 l) ∙ mark-of (adds p) ∙ sym (twice (adds p)) ∙ ap not (sym e);
+  named = ap (λ (m : ℕ). eqb m 1) (getD-set-same marks (p .row) (bit (adds p)) 0 l) ∙ mark-of (adds p) ∙ sym (Bool·not-not (adds p)) ∙ ap not (sym e);
   others = λ s ne. ap (λ (m : ℕ). eqb m 1) (getD-set-other marks (p .row) s (bit (adds p)) 0 ne);
 }
 
@@ -68,7 +64,7 @@ removes-is : (p : Proposal) → p .kind ≡ 2 → adds p ≡ false
 unfolding adds
 removes-is p k = ne-eqb (p .kind) 1 (λ (e : p .kind ≡ 1). omega arith)
 
-pub passes-earlier : (t : Table) (marks : List ℕ) (p : Proposal) → PassesEarlier t marks p ↔ Eligible t marks p
+passes-earlier : (t : Table) (marks : List ℕ) (p : Proposal) → PassesEarlier t marks p ↔ Eligible t marks p
 passes-earlier t marks p = (forth, back)
   where
     forth : PassesEarlier t marks p → Eligible t marks p

@@ -31,7 +31,7 @@ module _ (t : Table) where
   Rings inside = (v : ℕ) → Ring (Skin inside v)
 
   -- the ids may be named in any order
-  pub skin-back : (inside : ℕ → Bool) (v a b : ℕ) → Skin inside v a b → Skin inside v b a
+  skin-back : (inside : ℕ → Bool) (v a b : ℕ) → Skin inside v a b → Skin inside v b a
   skin-back inside v a b ((va, vb, ab), s) = ((vb, va, Ne·symm ab), split-map (λ z (h, (k, m)). (h, (m, k))) s)
 
   pub skin-swap : (inside : ℕ → Bool) (v a b : ℕ) → Skin inside v a b → Skin inside a v b
@@ -45,7 +45,7 @@ module _ (t : Table) where
     )
 
     -- a triangle is in exactly two rows
-    pub the-other-row : {v a b : ℕ} → Different v a b → (r : ℕ) → r < t .rows → On v a b r → TheOther (t .rows) (On v a b) r
+    the-other-row : {v a b : ℕ} → Different v a b → (r : ℕ) → r < t .rows → On v a b r → TheOther (t .rows) (On v a b) r
     the-other-row {v} {a} {b} d r l (p, (q, m)) =
         let (c, lc, x) = triangle-of t four r v a b d p q m in
         let o = across-is (closed .paired) r c l (subst (λ (n : ℕ). c < n) (sym four) lc) in

@@ -100,7 +100,7 @@ module _ {n : ℕ} (few : n ≤ 1024) {far : ℕ → ℕ → Bool} {e : Ends} (k
         ⊎-elim (λ f. f) (λ q. absurd (ne (eqb-true y b (and-second (eqb a a) (eqb y b) q)))) (or-either (far a y) (eqb a a && eqb y b) p))
         (λ f. is-without (plus far a b a) b y (still-far a y f) (λ (p : y ≡ b). not-both f (ap (far a) p ∙ new)))))
 
-    pub kept-linked : Kept n (plus far a b) (linked a b e)
+    kept-linked : Kept n (plus far a b) (linked a b e)
     unfolding linked
     kept-linked = record {
       degrees = length-set (e .degree) a (getD (e .degree) a 0 + 1) ∙ k .degrees;

@@ -20,7 +20,7 @@ use Rattle.rules.specs.Laws.Below.{any-more, any-here, any-some, none-any, all-
 use Rattle.rules.specs.Laws.Count.{ExactlyOne, count-one}
 use Rattle.rules.specs.Laws.Places.{row-of, within-row, row-below, place-below}
 use Rattle.rules.specs.Laws.Shape.{fourth-corner}
-use Rattle.rules.specs.Reading.Rows.{Rising, IdsBelow, one-corner, Holds, holds-reads}
+use Rattle.rules.specs.Reading.Rows.{Rising, one-corner, Holds, holds-reads}
 use Rattle.rules.specs.Reading.Skin.{Different, different-reads, TriangleIds, three-reads, triangle-of, skin-far}
 use Rattle.table.specs.declared.faces.Face.{Face}
 use Rattle.table.specs.Rows.{tableIn, rowsIn}
@@ -66,11 +66,11 @@ unfolding secondEnd InFace
 second-in f v = ⊎-elim (λ on. rw on (inr (inl refl))) (λ off. rw off (inr (inr refl))) (true-or-false (eqb (f .c) v))
 
 -- the three ids of a triangle that holds v are v and the two ends
-record Split (f : Face) (v x y : ℕ) : Type 0 where
+record TwoEnds (f : Face) (v x y : ℕ) : Type 0 where
   ends-differ : Different v x y
   only : (u : ℕ) → InFace f u → (u ≡ v) ⊎ ((u ≡ x) ⊎ (u ≡ y))
 
-split : (f : Face) (v : ℕ) → f .a < f .b → f .b < f .c → InFace f v → Split f v (firstEnd f v) (secondEnd f v)
+split : (f : Face) (v : ℕ) → f .a < f .b → f .b < f .c → InFace f v → TwoEnds f v (firstEnd f v) (secondEnd f v)
 unfolding InFace firstEnd secondEnd
 split f v ab bc (inl e) =
     rw (eq-eqb (f .a) v e, ne-eqb (f .c) v (λ (x : f .c ≡ v). omega arith)) (record {
@@ -89,7 +89,7 @@ split f v ab bc (inr (inr e)) =
     })
 
 -- of two different ids beside v one is the first end and one the second
-beside : {f : Face} {v x y : ℕ} → Split f v x y → InFace f x → InFace f y → (a b : ℕ)
+beside : {f : Face} {v x y : ℕ} → TwoEnds f v x y → InFace f x → InFace f y → (a b : ℕ)
     → (inFace f a && inFace f b && different v a b) ≡ ((eqb a x && eqb b y) || (eqb a y && eqb b x))
 beside {f} {v} {x} {y} s ix iy a b =
     same-test (inFace f a && inFace f b && different v a b) ((eqb a x && eqb b y) || (eqb a y && eqb b x)) (λ e.
@@ -289,7 +289,7 @@ module _ (t : Table) (four : t .corners ≡ 4) (inside : ℕ → Bool) (v : ℕ)
             ))
 
     -- once all places are done, the far edges are gathered
-    pub all-gathered : (a b : ℕ) → gathered t inside v (4 * t .rows) a b ≡ farEdge t inside v a b
+    all-gathered : (a b : ℕ) → gathered t inside v (4 * t .rows) a b ≡ farEdge t inside v a b
     unfolding gathered
     all-gathered a b =
         same-test (any (4 * t .rows) (λ q. farAt t inside v q a b)) (farEdge t inside v a b)
@@ -339,7 +339,7 @@ module _ {bytes neighbours marks : List ℕ} {ids : ℕ} (m : Marked bytes neigh
     before-now a b = any-more (4 * r + c) (λ q. farAt (tableIn bytes) (insideIn marks) v q a b) ∙ rw (row-of {m = 4} (lit< tt) r c lc, within-row {m = 4} (lit< tt) r c lc)
 
     -- nothing is shown
-    pub gather-passes : shown (tableIn bytes) (insideIn marks) v r c ≡ false → Gathered bytes marks ids v (4 * r + c + 1) e
+    gather-passes : shown (tableIn bytes) (insideIn marks) v r c ≡ false → Gathered bytes marks ids v (4 * r + c + 1) e
     gather-passes off = kept-same (λ a b _ _. sym (before-now a b ∙ rw off (or-false (gathered (tableIn bytes) (insideIn marks) v (4 * r + c) a b)))) k
 
     end-below : (u : ℕ) → InFace (faceOf (tableIn bytes) r c) u → u < ids
@@ -384,7 +384,7 @@ module _ {bytes neighbours marks : List ℕ} {ids : ℕ} (m : Marked bytes neigh
           (kept-joined (m .few) k x y (end-below x x-in) (end-below y y-in) (s .ends-differ .2) (not-before x y (here x y (or-first {a = eqb x x && eqb y y} (eqb x y && eqb y x) (rw (eq-eqb x x refl, eq-eqb y y refl)))))
           (not-before y x (here y x (or-second (eqb y x && eqb x y) {b = eqb y y && eqb x x} (rw (eq-eqb x x refl, eq-eqb y y refl))))))
         where
-          s : Split (faceOf (tableIn bytes) r c) v x y
+          s : TwoEnds (faceOf (tableIn bytes) r c) v x y
           s = rw (ex, ey) (split (faceOf (tableIn bytes) r c) v (rising-face .0) (rising-face .1) (in-face (faceOf (tableIn bytes) r c) v (and-second (onSkin (tableIn bytes) (insideIn marks) r c) (inFace (faceOf (tableIn bytes) r c) v) (and-second (insideIn marks r) (onSkin (tableIn bytes) (insideIn marks) r c && inFace (faceOf (tableIn bytes) r c) v) on))))
             where
               rising-face : ((faceOf (tableIn bytes) r c) .a < (faceOf (tableIn bytes) r c) .b) × ((faceOf (tableIn bytes) r c) .b < (faceOf (tableIn bytes) r c) .c)

@@ -1,7 +1,7 @@
 -- One ring, decided from the ends: each end has two edges, and from one end all others are reached.
 use mathlib.Core.Path.{_≡_, refl, sym, ap, _∙_}
-use mathlib.Core.Logic.{_⊎_, ⊎-elim, _≢_}
-use mathlib.Core.Bool.{Bool, true, false, not, _&&_, _||_, cond}
+use mathlib.Core.Logic.{⊎-elim, _≢_}
+use mathlib.Core.Bool.{Bool, true, false, not, _&&_, _||_, cond, Bool·not-not}
 use mathlib.Core.List.{List, []}
 use Prim.Native.Nat.{ℕ, zero, suc, _+_, _*_, _/_, _%_, _≤_, _<_}
 use native.Mathlib.Nat.{not-suc-le-zero, le-refl, le-step}
@@ -15,7 +15,7 @@ use Rattle.rules.specs.Table.{Table}
 use Rattle.rules.specs.Skin.{farEdge, farEnd, oneRing}
 use Rattle.rules.specs.Laws.Truth.{true-or-false, not-both, same-test, same-or-not, or-either}
 use Rattle.rules.specs.Laws.Below.{any-here, any-some, all-each, all-same, all-more}
-use Rattle.rules.specs.Laws.Count.{count-same, count-some, count-zero, count-more, bit-zero, count-not, count-other}
+use Rattle.rules.specs.Laws.Count.{bit-small, count-same, count-some, count-zero, count-more, bit-zero, count-not, count-other}
 use Rattle.rules.specs.Laws.Lists.{pick-same}
 use Rattle.rules.specs.Laws.Joined.{Chain, stay, step, chain-ends, chain-join, Picked}
 use Rattle.rules.specs.Reading.Skin.{far-back}
@@ -46,7 +46,7 @@ abbrev pub noneOrTwo : List ℕ → ℕ → Bool
 noneOrTwo degree a = eqb (getD degree a 0) 0 || eqb (getD degree a 0) 2
 
 module _ {n : ℕ} {far : ℕ → ℕ → Bool} {e : Ends} (k : Kept n far e) where
-  pub used-end : (a : ℕ) → a < n → used (e .degree) a ≡ isEnd n far a
+  used-end : (a : ℕ) → a < n → used (e .degree) a ≡ isEnd n far a
   used-end a l =
       same-test (used (e .degree) a) (isEnd n far a)
       (λ u. let (b, m, f) = count-some n (far a) (more (eqb-false (getD (e .degree) a 0) 0 (not-true (eqb (getD (e .degree) a 0) 0) u))) in any-here n (far a) b m f)
@@ -56,17 +56,13 @@ module _ {n : ℕ} {far : ℕ → ℕ → Bool} {e : Ends} (k : Kept n far e) wh
       more : getD (e .degree) a 0 ≢ 0 → 0 < count n (far a)
       more ne = ⊎-elim (λ (z : count n (far a) ≡ 0). absurd (ne (k .counted a l ∙ z))) (λ (z : count n (far a) ≡ 0 → ⊥). omega (arith, z)) (same-or-not (count n (far a)) 0)
 
-  pub none-or-two : (a : ℕ) → a < n → noneOrTwo (e .degree) a ≡ (not (isEnd n far a) || eqb (count n (far a)) 2)
-  none-or-two a l = rw (← used-end a l, ← k .counted a l) (twice (eqb (getD (e .degree) a 0) 0) (eqb (getD (e .degree) a 0) 2))
-    where
-      twice : (x y : Bool) → x || y ≡ not (not x) || y
-      twice true y = refl
-      twice false y = refl
+  none-or-two : (a : ℕ) → a < n → noneOrTwo (e .degree) a ≡ (not (isEnd n far a) || eqb (count n (far a)) 2)
+  none-or-two a l = rw (← used-end a l, ← k .counted a l) (ap (λ (z : Bool). z || eqb (getD (e .degree) a 0) 2) (sym (Bool·not-not (eqb (getD (e .degree) a 0) 0))))
 
-  pub rule-by-degrees : all n (noneOrTwo (e .degree)) ≡ all n (λ a. not (isEnd n far a) || eqb (count n (far a)) 2)
+  rule-by-degrees : all n (noneOrTwo (e .degree)) ≡ all n (λ a. not (isEnd n far a) || eqb (count n (far a)) 2)
   rule-by-degrees = all-same n (noneOrTwo (e .degree)) (λ a. not (isEnd n far a) || eqb (count n (far a)) 2) none-or-two
 
-  pub ends-by-degrees : count n (used (e .degree)) ≡ count n (isEnd n far)
+  ends-by-degrees : count n (used (e .degree)) ≡ count n (isEnd n far)
   ends-by-degrees = count-same n (used (e .degree)) (isEnd n far) used-end
 
 -- the loop over the degrees, before id
@@ -91,18 +87,15 @@ tally-turn {degree} {id = id} t l em ee = record {
 }
 
 pub tally-fits : {degree : List ℕ} {n : ℕ} {even : Bool} {ends end id : ℕ} → Tallied degree n even ends end id → n ≤ 1024 → {more : ℕ} → more ≡ cond (used degree id) 1 0 → ends + more ≤ 1025
-tally-fits {degree} {id = id} t few em = omega (arith, t .upto, t .counted, count-not id (used degree), em, small (used degree id))
-  where
-    small : (b : Bool) → cond {A = ℕ} b 1 0 ≤ 1
-    small true = omega arith
-    small false = omega arith
+unfolding bit
+tally-fits {degree} {id = id} t few em = omega (arith, t .upto, t .counted, count-not id (used degree), em, bit-small (used degree id))
 
 pub tally-ends : {degree : List ℕ} {n : ℕ} {even : Bool} {ends end id : ℕ} → Tallied degree n even ends end id → n ≤ id
     → (even ≡ all n (noneOrTwo degree)) × (ends ≡ count n (used degree)) × (end ≡ highest n (used degree))
 tally-ends {n = n} {id = id} t l = let e : id ≡ n = omega (arith, t .upto) in (rw e at (t .all-even), rw e at (t .counted), rw e at (t .last))
 
 -- an end, if there is one
-pub highest-end : (n : ℕ) (p : ℕ → Bool) → 0 < count n p → Picked n p (highest n p)
+highest-end : (n : ℕ) (p : ℕ → Bool) → 0 < count n p → Picked n p (highest n p)
 unfolding count sum bit highest
 highest-end zero p l = absurd (not-suc-le-zero l)
 highest-end (suc n) p l = ⊎-elim (λ on. rw on (le-refl (suc n), on)) (λ off. rw off (let (m, is) = highest-end n p (omega (arith, l, bit-zero off)) in (le-step m, is))) (true-or-false (p n))

@@ -7,7 +7,7 @@ use table::row_count;
 ghost use mathlib.Core.Path.{_≡_};
 ghost use mathlib.Core.Bool.{cond};
 ghost use Prim.Native.Nat.{_+_, _*_, _/_, _<_};
-ghost use lib.ListN.{length, set};
+ghost use lib.ListN.{set};
 ghost use Rattle.table.specs.Faces.{faceCorners};
 ghost use Rattle.rings.specs.Far.{Marked};
 ghost use Rattle.rings.specs.Vertices.{NoFlags, Flagged, Told};

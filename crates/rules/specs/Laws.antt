@@ -1,4 +1,17 @@
--- What follows from the definitions, one by one.
+-- What follows from the definitions, one by one:
+--     Truth      tests and what they say
+--     Below      lowest, any and all below a bound
+--     Count      how many pass; exactly one, exactly two
+--     Highest    the highest that passes
+--     Lists      lists gathered and tabulated; members
+--     Places     m places to a row
+--     Joined     chains, and connectedness by them
+--     Shape      the fixed tables of corners and edges
+--     First      first match decides
+--     Proposals  answers and marks, one proposal more
+--     Words      numbers in bytes
+--     Written    a list at the front of a buffer
+--     Job        what a job takes from its header
 pub mod Truth
 pub mod Below
 pub mod Count

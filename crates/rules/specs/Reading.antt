@@ -1,4 +1,15 @@
--- Document 01 in plain relations, each proved equal in meaning to the definition that computes it.
+-- Document 01 in plain relations, each proved equal in meaning to the definition that computes it:
+--     Rows        rising rows, ids below V, dictionary order, holding an id
+--     Neighbours  neighbours, and that they are mutual
+--     Closed      the triangle, edge and vertex rules; the row across; the closed table
+--     Moves       rows that hold two ids, and the moves between them
+--     Apart       no two rows have the same ids
+--     Skin        skin triangles, skin vertices, far edges
+--     Ring        one ring, clean
+--     Answers     the tests of a proposal and the five cases
+--     Codes       each code exactly in its case, and what it leaves
+--     Room        at most 2N triangles, each once
+--     Small       how large what a run gives can be
 pub mod Rows
 pub mod Neighbours
 pub mod Closed

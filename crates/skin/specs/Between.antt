@@ -2,13 +2,10 @@
 use mathlib.Core.Path.{_≡_, refl, sym, ap, _∙_}
 use mathlib.Core.Bool.{Bool, true, false, not, xor, Bool·beq}
 use mathlib.Core.List.{List}
-use Prim.Native.Nat.{ℕ, _+_, _*_, _/_, _≤_, _<_}
-use native.Mathlib.Omega.{arith}
-use lib.ListN.{length, getD}
-use Rattle.rules.specs.Table.{across}
+use Prim.Native.Nat.{ℕ, _+_, _*_, _<_}
+use lib.ListN.{getD}
 use Rattle.rules.specs.Skin.{onSkin}
 use Rattle.rules.specs.Proposals.{insideIn}
-use Rattle.rules.specs.Reading.Closed.{Closed, across-other, across-is}
 use Rattle.rules.specs.Reading.Skin.{skin-between}
 use Rattle.table.specs.Rows.{rowsIn, tableIn}
 use Rattle.table.specs.Ground.{Ground}

@@ -43,7 +43,7 @@ module _ (key : ℕ → ℕ) (n : ℕ) where
   }
 
   -- one place more, put before its chain
-  pub more-threaded : (i : ℕ) (head next : List ℕ) → i < n → key i < 8192 → length head ≡ 8192 → i < length next → Threaded (i + 1) head next
+  more-threaded : (i : ℕ) (head next : List ℕ) → i < n → key i < 8192 → length head ≡ 8192 → i < length next → Threaded (i + 1) head next
       → Threaded i (set head (key i) i) (set next i (getD head (key i) 0))
   more-threaded i head next l small full ln t = record {
     heads = λ v lv.

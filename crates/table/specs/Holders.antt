@@ -86,7 +86,7 @@ module _ (t : Table) (r : ℕ) where
 
 -- ---- how many rows hold an edge or a vertex
 
-pub both-count : (t : Table) → t .corners ≡ 4 → ((r : ℕ) → r < t .rows → Rising t r) → {base m : ℕ} → Kind base m → 4 ≤ base → (p : ℕ) → p < m * t .rows
+both-count : (t : Table) → t .corners ≡ 4 → ((r : ℕ) → r < t .rows → Rising t r) → {base m : ℕ} → Kind base m → 4 ≤ base → (p : ℕ) → p < m * t .rows
     → count (m * t .rows) (like t base m p) ≡ count (t .rows) (both t (faceAt t base m p .a) (faceAt t base m p .b))
 unfolding both holdsIds faceOf
 both-count t four up {base} {m} kind l p lp =
@@ -105,7 +105,7 @@ four-ways = lit< tt
 
 module _ {t : Table} {idCount : ℕ} (paired : Paired t idCount) (four : t .corners ≡ 4) where
   -- As many rows are reached as hold a and b, exactly if these are joined.
-  pub rows-joined : (a b k start : ℕ) (stamp : List ℕ) (reached : ℕ) → Picked (t .rows) (both t a b) start
+  rows-joined : (a b k start : ℕ) (stamp : List ℕ) (reached : ℕ) → Picked (t .rows) (both t a b) start
       → Flooded four-ways (t .rows) k start (leaves t a b) (across t) (Joining t a b start) stamp reached → eqb reached (count (t .rows) (both t a b)) ≡ bothJoined t a b
   unfolding bothJoined
   rows-joined a b k start =

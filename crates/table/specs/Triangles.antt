@@ -74,13 +74,13 @@ but-one h =
 
 module _ (t : Table) (four : t .corners ≡ 4) where
   -- a row holds a triangle's ids exactly if it is a side of it
-  pub side-ids : (r c s : ℕ) → c < 4 → holdsIds t (faceOf t r (0 + c)) s ≡ side t r c s
+  side-ids : (r c s : ℕ) → c < 4 → holdsIds t (faceOf t r (0 + c)) s ≡ side t r c s
   unfolding holdsIds faceOf side
   side-ids r c s l = rw (zero-add c) (sym (ap (λ (n : ℕ). allBut n (λ k. holds t s (t .id r k)) c) four ∙ but-one (λ k. holds t s (t .id r k)) c l))
 
   module _ (up : (r : ℕ) → r < t .rows → Rising t r) where
     -- the rows that hold the triangle at a place
-    pub triangle-count : (r c : ℕ) → r < t .rows → c < 4 → count (4 * t .rows) (like t 0 4 (4 * r + c)) ≡ count (t .rows) (side t r c)
+    triangle-count : (r c : ℕ) → r < t .rows → c < 4 → count (4 * t .rows) (like t 0 4 (4 * r + c)) ≡ count (t .rows) (side t r c)
     triangle-count r c l m =
         like-count t four up triangles (4 * r + c) (place-below {m = 4} (lit< tt) (t .rows) r c l m)
         ∙ count-same (t .rows) (holdsIds t (faceAt t 0 4 (4 * r + c))) (side t r c) (λ s _.
@@ -95,7 +95,7 @@ module _ (t : Table) (four : t .corners ≡ 4) where
         (λ c m. ap (λ (n : ℕ). eqb n 2) (sym (triangle-count r c l m)))
 
     -- the row across is the row of the other place
-    pub across-place : (p : ℕ) → p < 4 * t .rows → count (4 * t .rows) (like t 0 4 p) ≡ 2
+    across-place : (p : ℕ) → p < 4 * t .rows → count (4 * t .rows) (like t 0 4 p) ≡ 2
         → highest (4 * t .rows) (another t 0 4 p) / 4 ≡ across t (p / 4) (p % 4)
     unfolding another
     across-place p l two =
@@ -138,7 +138,7 @@ module _ (t : Table) (four : t .corners ≡ 4) where
     pub unshared-none : lowest (4 * t .rows) (unsharedAt t) ≡ none → none ≡ lowest (t .rows) (unshared t)
     unshared-none e = sym (broken-none {m = 4} (lit< tt) (t .rows) (fine t) (trianglesShared t) rule-by-places e)
 
-    pub list-by-places : neighbourList t ≡ tabulate (4 * t .rows) (acrossAt t)
+    list-by-places : neighbourList t ≡ tabulate (4 * t .rows) (acrossAt t)
     unfolding neighbourList
     list-by-places = ap (λ (n : ℕ). tabulate (n * t .rows) (λ k. across t (k / n) (k % n))) four
 

@@ -55,10 +55,10 @@ module _ (t : Table) (base m p : ℕ) where
     after : (q : ℕ) → q < places → Standing q → Next key places (key p) (q + 1) (getD next q 0)
     after q l s = subst (λ (v : ℕ). Next key places v (q + 1) (getD next q 0)) (s .hits l) (chained .nexts q (omega arith) l)
 
-    pub stands-first : Standing (getD head (key p) 0)
+    stands-first : Standing (getD head (key p) 0)
     stands-first = record { upto = first .upto; hits = first .hits }
 
-    pub stands-after : (q : ℕ) → q < places → Standing q → Standing (getD next q 0)
+    stands-after : (q : ℕ) → q < places → Standing q → Standing (getD next q 0)
     stands-after q l s = record { upto = after q l s .upto; hits = after q l s .hits }
 
     -- the walk goes on

@@ -57,6 +57,13 @@ pub(crate) fn neighbours(rows: &[u8], work: &mut [u32]) -> Found
     let corners = corner_table();
     let mut head = [(TRIANGLES * row_count(rows)) as u16; 8192];
     let mut next = [0u16; 12288];
-    thread(rows, &corners, TRIANGLES_AT, TRIANGLES, &mut head, &mut next);
+    thread(
+        rows,
+        &corners,
+        TRIANGLES_AT,
+        TRIANGLES,
+        &mut head,
+        &mut next,
+    );
     neighbours_by(rows, &corners, &head, &next, work)
 }

@@ -41,7 +41,12 @@ pub(crate) fn thread(
     let mut place = m * row_count(rows);
     while 0 < place {
         place -= 1;
-        link(key_of(face_at(rows, corners, base, m, place)), place, head, next);
+        link(
+            key_of(face_at(rows, corners, base, m, place)),
+            place,
+            head,
+            next,
+        );
     }
 }
 

@@ -134,13 +134,7 @@ pub(crate) fn row_of(place: usize, m: usize) -> usize
 }
 
 // The face at a place: of the faces from `base` on, `m` to a row. Each kind has its own constants, with which it is quick.
-pub(crate) fn face_at(
-    rows: &[u8],
-    corners: &[u8; 42],
-    base: usize,
-    m: usize,
-    place: usize,
-) -> Face
+pub(crate) fn face_at(rows: &[u8], corners: &[u8; 42], base: usize, m: usize, place: usize) -> Face
     requires { ⌜ Kind base m × (place < m * rowsIn (now rows)) × (now corners ≡ faceCorners) ⌝ }
     ensures { λ r. ⌜ r ≡ faceAt (tableIn (now (rows .entry))) base m place ⌝ }
 {

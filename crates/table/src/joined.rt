@@ -74,7 +74,18 @@ fn broken_by(
     let end = m * row_count(rows);
     let mut place = 0;
     while place < end {
-        if !face_joined(rows, neighbours, corners, base, m, head, next, stamp, queue, place) {
+        if !face_joined(
+            rows,
+            neighbours,
+            corners,
+            base,
+            m,
+            head,
+            next,
+            stamp,
+            queue,
+            place,
+        ) {
             return Found::At(row_of(place, m));
         }
         place += 1;

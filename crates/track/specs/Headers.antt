@@ -85,13 +85,12 @@ module _ (job : List ℕ) (buffers : Lent) where
 
         pub laid-out : stages.Laid h job needed
         laid-out =
-            let (((_, ids), (_, rows)), (_, proposals)) = limits-read track (headerOf job) .0 (facts .1) in
+            let (((_, ids), (_, rows)), _) = limits-read track (headerOf job) .0 (facts .1) in
             let (((_, six), _), whole) = laid-out-reads track (headerOf job) job .0 (facts .2) in
             record {
               is = facts .0;
               few-ids = rw (facts .0) ids;
               few = rw (facts .0) rows;
-              few-proposals = rw (facts .0) proposals;
               long = rw (facts .0) (sym whole ∙ six);
               answer-room = rw (facts .0) (enough (λ x. inl (inl (inl x))));
               mark-room = rw (facts .0) (enough (λ x. inl (inl (inr x))));

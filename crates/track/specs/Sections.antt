@@ -12,9 +12,9 @@ use lib.Seq.{length-take-le}
 use borrow.Author.Tests.{ne-eqb}
 use Rattle.rules.specs.Below.{tabulate}
 use Rattle.rules.specs.First.{Test, Verdict, firstMatch}
-use Rattle.rules.specs.Table.{Table, neighbourList}
+use Rattle.rules.specs.Table.{neighbourList}
 use Rattle.rules.specs.Job as rules
-use Rattle.rules.specs.Job.{track, rowsAt, marksAt, proposalsAt, section, rowsTable, proposalIn, Job, jobOf, Lent, workRoom, written, tableTests, markTests, Result, accepted, refused}
+use Rattle.rules.specs.Job.{track, rowBytes, rowsAt, marksAt, proposalsAt, section, rowsTable, proposalIn, Job, jobOf, Lent, workRoom, written, tableTests, markTests, Result, accepted, refused}
 use Rattle.rules.specs.Laws.Truth.{same-or-not}
 use Rattle.rules.specs.Laws.First.{match-append, match-front}
 use Rattle.rules.specs.Laws.Written.{written-length, written-at, written-over}
@@ -79,8 +79,8 @@ module _ {h : Header} {job : List ℕ} {buffers : Lent} (l : Laid h job buffers)
   abbrev proposals : List ℕ
   proposals = take (length job - c) (drop c job)
 
-  rows-is : rows ≡ section job rowsAt (16 * h .rows)
-  rows-is = let size : b - a ≡ 16 * h .rows = omega (arith, ea, eb) in ap₂ (λ (n m : ℕ). take n (drop m job)) size ea
+  rows-is : rows ≡ section job rowsAt (rowBytes track * h .rows)
+  rows-is = let size : b - a ≡ rowBytes track * h .rows = omega (arith, ea, eb) in ap₂ (λ (n m : ℕ). take n (drop m job)) size ea
 
   marks-is : marks ≡ section job (marksAt track (meant h)) (h .rows)
   marks-is = let size : c - b ≡ h .rows = omega (arith, eb, ec) in ap₂ (λ (n m : ℕ). take n (drop m job)) size eb
@@ -88,8 +88,8 @@ module _ {h : Header} {job : List ℕ} {buffers : Lent} (l : Laid h job buffers)
   proposals-is : proposals ≡ section job (proposalsAt track (meant h)) (8 * h .proposals)
   proposals-is = let size : length job - c ≡ 8 * h .proposals = omega (arith, ec, l .long) in ap₂ (λ (n m : ℕ). take n (drop m job)) size ec
 
-  rows-long : length rows ≡ 16 * h .rows
-  rows-long = ap length rows-is ∙ section-length job rowsAt (16 * h .rows) (omega (arith, l .long))
+  rows-long : length rows ≡ rowBytes track * h .rows
+  rows-long = ap length rows-is ∙ section-length job rowsAt (rowBytes track * h .rows) (omega (arith, l .long))
 
   pub counted : rowsIn rows ≡ h .rows
   unfolding rowsIn
@@ -109,7 +109,7 @@ module _ {h : Header} {job : List ℕ} {buffers : Lent} (l : Laid h job buffers)
       held : rules.Header → Job
       held x = record {
         ids = x .ids;
-        table = rowsTable track (x .rows) (section job rowsAt (16 * x .rows));
+        table = rowsTable track (x .rows) (section job rowsAt (rowBytes track * x .rows));
         marks = section job (marksAt track x) (x .rows);
         proposals = tabulate (x .proposals) (proposalIn (section job (proposalsAt track x) (8 * x .proposals)));
       }

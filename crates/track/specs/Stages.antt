@@ -1,9 +1,9 @@
 -- The run in stages: header and room, table, marks, proposals. Each says what is still to be decided when it begins.
 use mathlib.Core.Path.{_≡_, refl, sym, ap, ap₂, _∙_}
 use mathlib.Core.Logic.{⊎-elim, _≢_}
-use mathlib.Core.Bool.{false, not, cond}
+use mathlib.Core.Bool.{false, cond}
 use mathlib.Core.List.{List, _++_, flatten}
-use Prim.Native.Nat.{ℕ, _+_, _*_, _/_, _≤_}
+use Prim.Native.Nat.{ℕ, _*_, _/_, _≤_}
 use native.Mathlib.Nat.{le-refl}
 use native.Mathlib.Omega.{arith}
 use lib.Dec.{eqb, leb, lit≤}
@@ -15,7 +15,7 @@ use Rattle.rules.specs.First.{Test, Verdict, firstMatch}
 use Rattle.rules.specs.Skin.{skin}
 use Rattle.rules.specs.Proposals.{Proposal, insideIn, answersTo, finalMarks, taken}
 use Rattle.rules.specs.Job as rules
-use Rattle.rules.specs.Job.{track, headerOf, mostIds, mostRows, mostProposals, wholeLength, Job, jobOf, Lent, workRoom, listRoom, written, markTests, sectionTests, Result, accepted, refused, verdictOn, run}
+use Rattle.rules.specs.Job.{track, headerOf, mostIds, mostRows, wholeLength, Job, jobOf, Lent, workRoom, listRoom, written, markTests, sectionTests, Result, accepted, refused, verdictOn, run}
 use Rattle.rules.specs.Laws.Truth.{same-or-not}
 use Rattle.rules.specs.Laws.Proposals.{final-length}
 use Rattle.rules.specs.Laws.First.{match-code}
@@ -69,7 +69,6 @@ pub record Laid (h : Header) (job : List ℕ) (buffers : Lent) : Type 0 where
   pub is : h ≡ header job
   pub few-ids : h .ids ≤ mostIds
   pub few : h .rows ≤ mostRows
-  pub few-proposals : h .proposals ≤ mostProposals
   pub long : length job ≡ wholeLength track (meant h)
   pub answer-room : h .proposals ≤ length (buffers .answers)
   pub mark-room : h .rows ≤ length (buffers .finalMarks)

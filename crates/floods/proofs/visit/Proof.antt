@@ -10,9 +10,6 @@ mul-stamp c = search needs
 element-write-stamp : tie.Need-element-write-stamp
 element-write-stamp c = search needs
 
-cast-queue : tie.Need-cast-queue
-cast-queue c = search needs
-
 mul-queue : tie.Need-mul-queue
 mul-queue c = omega (arith, c .before .pre .1 (c .if1 .taken))
 
@@ -34,7 +31,7 @@ visit-spec =
     (tie.spec
     mul-stamp
     element-write-stamp
-    cast-queue
+    (λ c. search needs)
     mul-queue
     element-write-queue
     add-result

@@ -18,7 +18,9 @@ loop-holds : tie.Need-loop-holds Inv-loop μ-loop
 loop-holds c = answering-begins _ _ _ _
 
 answer-one-requires : tie.Need-answer-one-requires Inv-loop μ-loop
-answer-one-requires c κs = (c .before .before .before .before .before .before .before .before .before .pre .0, marks-length _ _ _ _ (c .before .before .before .loop .inv) ∙ c .before .before .before .before .before .before .before .before .before .pre .1, c .before .before .loop-test .taken, rw (answers-room _ _ _ _ (c .before .before .before .loop .inv) (c .before .before .before .before .before .before .before .before .before .pre .2)) (omega (arith, c .before .before .before .before .before .before .before .before .before .pre .2, c .before .before .loop-test .taken)))
+answer-one-requires c κs =
+    let at-loop-test = c .before .before in let turn = at-loop-test .before in let start = turn .before .before .before .before .before .before in
+    (start .pre .0, marks-length _ _ _ _ (turn .loop .inv) ∙ start .pre .1, at-loop-test .loop-test .taken, rw (answers-room _ _ _ _ (turn .loop .inv) (start .pre .2)) (omega (arith, start .pre .2, at-loop-test .loop-test .taken)))
 
 add-taken : tie.Need-add-taken Inv-loop μ-loop
 add-taken c = omega (arith, taken-small _ _ _ _ (c .before .before .before .before .before .before .before .before .loop .inv) (c .before .before .before .before .answer-one .ensures .0), c .before .before .before .before .before .before .before .loop-test .taken)
@@ -30,7 +32,9 @@ loop-less : tie.Need-loop-less Inv-loop μ-loop
 loop-less c = omega (arith, c .before .before .before .before .before .before .before .loop-test .taken)
 
 loop-again : tie.Need-loop-again Inv-loop μ-loop
-loop-again c = answering-turn _ _ _ _ (c .before .before .before .before .before .before .before .before .loop .inv) (c .before .before .before .before .before .before .before .before .before .before .before .before .before .before .pre .2) (c .before .before .before .before .before .before .before .loop-test .taken) (c .before .before .before .before .answer-one .ensures .0) (c .before .before .before .before .answer-one .ensures .1) (c .before .before .before .before .answer-one .ensures .2)
+loop-again c =
+    let at-answer-one = c .before .before .before .before in
+    answering-turn _ _ _ _ (at-answer-one .before .before .before .before .loop .inv) (at-answer-one .before .before .before .before .before .before .before .before .before .before .pre .2) (at-answer-one .before .before .before .loop-test .taken) (at-answer-one .answer-one .ensures .0) (at-answer-one .answer-one .ensures .1) (at-answer-one .answer-one .ensures .2)
 
 same-length : tie.Need-same-length Inv-loop μ-loop
 same-length c = answers-room _ _ _ _ (c .before .loop .inv) (c .before .before .before .before .before .before .before .pre .2)

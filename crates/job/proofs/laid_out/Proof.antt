@@ -6,9 +6,6 @@ use Rattle.job.proofs.laid_out.Tie as tie
 header-word-requires : tie.Need-header-word-requires
 header-word-requires c κs = search needs
 
-rows-at-requires : tie.Need-rows-at-requires
-rows-at-requires c κs = search needs
-
 header-word-requires-2 : tie.Need-header-word-requires-2
 header-word-requires-2 c κs = search needs
 
@@ -39,7 +36,7 @@ laid-out-spec =
     tie.close
     (tie.spec
     header-word-requires
-    rows-at-requires
+    (λ c κs. tt)
     header-word-requires-2
     marks-at-requires
     header-word-requires-3

@@ -16,20 +16,13 @@ slice-aggregate-run-3 c = search needs
 slice-aggregate-run-4 : tie.Need-slice-aggregate-run-4
 slice-aggregate-run-4 c = search needs
 
-run-requires : tie.Need-run-requires
-run-requires c κs = search needs
-
 put-refused-requires : tie.Need-put-refused-requires
 put-refused-requires c κs = search needs
 
-same-length : tie.Need-same-length
-same-length c = search needs
-
 returns : tie.Need-returns
-returns c = listed _ (refused-is _ (c .before .before .before .before .before .before .before .before .before .before .run .ensures) (c .before .before .before .before .if1 .taken)) (c .before .before .put-refused .ensures .0) (omega (arith, c .before .before .put-refused .ensures .1, c .before .before .before .before .before .before .before .before .before .before .before .before .before .before .before .before .before .pre))
-
-proposals-of-requires : tie.Need-proposals-of-requires
-proposals-of-requires c κs = search needs
+returns c =
+    let at-put-refused = c .before .before in
+    listed _ (refused-is _ (at-put-refused .before .before .before .before .before .before .before .before .run .ensures) (at-put-refused .before .before .if1 .taken)) (at-put-refused .put-refused .ensures .0) (omega (arith, at-put-refused .put-refused .ensures .1, at-put-refused .before .before .before .before .before .before .before .before .before .before .before .before .before .before .before .pre))
 
 slice-aggregate-put-done : tie.Need-slice-aggregate-put-done
 slice-aggregate-put-done c = search needs
@@ -38,13 +31,14 @@ slice-aggregate-put-done-2 : tie.Need-slice-aggregate-put-done-2
 slice-aggregate-put-done-2 c = search needs
 
 put-done-requires : tie.Need-put-done-requires
-put-done-requires c κs = let (a, b, d, e) = done-fits _ (c .before .before .before .before .before .before .before .before .before .before .run .ensures) (c .before .before .before .before .if1 .left) (c .before .before .before .proposals-of .ensures) (c .before .before .before .before .before .before .before .before .before .before .run .kept .1 .0) (c .before .before .before .before .before .before .before .before .before .before .run .kept .1 .1 .1 .0) in (a, b, d, e, c .before .before .before .before .before .before .before .before .before .before .before .before .before .before .before .before .before .pre)
-
-same-length-2 : tie.Need-same-length-2
-same-length-2 c = search needs
+put-done-requires c κs =
+    let at-run = c .before .before .before .before .before .before .before .before .before .before in
+    let (a, b, d, e) = done-fits _ (at-run .run .ensures) (c .before .before .before .before .if1 .left) (c .before .before .before .proposals-of .ensures) (at-run .run .kept .1 .0) (at-run .run .kept .1 .1 .1 .0) in (a, b, d, e, at-run .before .before .before .before .before .before .before .pre)
 
 returns-2 : tie.Need-returns-2
-returns-2 c = listed _ (done-is _ (c .before .before .before .before .before .before .before .before .before .before .before .before .before .run .ensures) (c .before .before .before .before .before .before .before .if1 .left) (c .before .before .before .before .before .before .proposals-of .ensures)) (c .before .before .put-done .ensures .0) (omega (arith, c .before .before .put-done .ensures .1, c .before .before .before .before .before .before .before .before .before .before .before .before .before .before .before .before .before .before .before .before .pre))
+returns-2 c =
+    let at-put-done = c .before .before in
+    listed _ (done-is _ (at-put-done .before .before .before .before .before .before .before .before .before .before .before .run .ensures) (at-put-done .before .before .before .before .before .if1 .left) (at-put-done .before .before .before .before .proposals-of .ensures)) (at-put-done .put-done .ensures .0) (omega (arith, at-put-done .put-done .ensures .1, at-put-done .before .before .before .before .before .before .before .before .before .before .before .before .before .before .before .before .before .before .pre))
 
 pub list-job-spec : {M : Type 1} → statement M
 list-job-spec =
@@ -54,13 +48,13 @@ list-job-spec =
     slice-aggregate-run-2
     slice-aggregate-run-3
     slice-aggregate-run-4
-    run-requires
+    (λ c κs. tt)
     put-refused-requires
-    same-length
+    (λ c. search needs)
     returns
-    proposals-of-requires
+    (λ c κs. tt)
     slice-aggregate-put-done
     slice-aggregate-put-done-2
     put-done-requires
-    same-length-2
+    (λ c. search needs)
     returns-2)

@@ -12,14 +12,14 @@ slice-aggregate-put-line-2 : tie.Need-slice-aggregate-put-line-2
 slice-aggregate-put-line-2 c = search needs
 
 put-line-requires : tie.Need-put-line-requires
-put-line-requires c κs = omega (arith, refused-few {a = c .before .before .before .before .args .code} {b = c .before .before .before .before .args .place} (omega (arith, c .before .before .before .before .good)) (omega (arith, c .before .before .before .before .good)))
-
-same-length : tie.Need-same-length
-same-length c = search needs
+put-line-requires c κs =
+    let start = c .before .before .before .before in omega (arith, refused-few {a = start .args .code} {b = start .args .place} (omega (arith, start .good)) (omega (arith, start .good)))
 
 returns : tie.Need-returns
 unfolding refusedText
-returns c = (c .before .before .put-line .ensures, omega (arith, refused-few {a = c .before .before .before .before .before .before .before .args .code} {b = c .before .before .before .before .before .before .before .args .place} (omega (arith, c .before .before .before .before .before .before .before .good)) (omega (arith, c .before .before .before .before .before .before .before .good)), c .before .before .put-line .ensures .behind))
+returns c =
+    let at-put-line = c .before .before in let start = at-put-line .before .before .before .before .before in
+    (at-put-line .put-line .ensures, omega (arith, refused-few {a = start .args .code} {b = start .args .place} (omega (arith, start .good)) (omega (arith, start .good)), at-put-line .put-line .ensures .behind))
 
 pub put-refused-spec : {M : Type 1} → statement M
 put-refused-spec =
@@ -28,5 +28,5 @@ put-refused-spec =
     slice-aggregate-put-line
     slice-aggregate-put-line-2
     put-line-requires
-    same-length
+    (λ c. search needs)
     returns)

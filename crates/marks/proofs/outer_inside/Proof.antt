@@ -16,9 +16,6 @@ Inv-loop rows marks n row₀ row = (row ≤ n) × (lowest row (outerInside (tabl
 abbrev μ-loop : tie.MeasureT-loop
 μ-loop rows marks n row₀ row = n - row
 
-row-count-requires : tie.Need-row-count-requires Inv-loop μ-loop
-row-count-requires c κs = search needs
-
 loop-holds : tie.Need-loop-holds Inv-loop μ-loop
 unfolding lowest
 loop-holds c = (search needs, refl)
@@ -31,7 +28,7 @@ is-inside-requires c κs = search needs
 
 returns : tie.Need-returns Inv-loop μ-loop
 unfolding outer
-returns c = sym (search-stops _ _ (outerInside (tableIn (c .before .before .before .before .before .before .before .before .args .rows .now)) (c .before .before .before .before .before .before .before .before .args .marks .now)) (c .before .before .before .before .loop .inv .1) (search needs) (rw (← c .before .before .holds .ensures, ← c .before .is-inside .ensures) (c .if1 .taken)))
+returns c = sym (search-stops _ _ (outerInside (tableIn _) _) (c .before .before .before .before .loop .inv .1) (search needs) (rw (← c .before .before .holds .ensures, ← c .before .is-inside .ensures) (c .if1 .taken)))
 
 add-row : tie.Need-add-row Inv-loop μ-loop
 add-row c = search needs
@@ -41,10 +38,10 @@ loop-less c = search needs
 
 loop-again : tie.Need-loop-again Inv-loop μ-loop
 unfolding outer
-loop-again c = (search needs, searched-more _ (outerInside (tableIn (c .before .before .before .before .before .before .before .before .args .rows .now)) (c .before .before .before .before .before .before .before .before .args .marks .now)) (c .before .before .before .before .loop .inv .1) (rw (← c .before .before .holds .ensures, ← c .before .is-inside .ensures) (c .if1 .left)))
+loop-again c = (search needs, searched-more _ (outerInside (tableIn _) _) (c .before .before .before .before .loop .inv .1) (rw (← c .before .before .holds .ensures, ← c .before .is-inside .ensures) (c .if1 .left)))
 
 returns-2 : tie.Need-returns-2 Inv-loop μ-loop
-returns-2 c = sym (search-ends _ _ (outerInside (tableIn (c .before .before .before .before .before .args .rows .now)) (c .before .before .before .before .before .args .marks .now)) (c .before .loop .inv .1) (search needs))
+returns-2 c = sym (search-ends _ _ (outerInside (tableIn _) _) (c .before .loop .inv .1) (search needs))
 
 pub outer-inside-spec : {M : Type 1} → statement M
 outer-inside-spec =
@@ -52,7 +49,7 @@ outer-inside-spec =
     (tie.spec
     Inv-loop
     μ-loop
-    row-count-requires
+    (λ c κs. tt)
     loop-holds
     holds-requires
     is-inside-requires

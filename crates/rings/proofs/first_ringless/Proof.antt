@@ -29,7 +29,9 @@ is-ringless-requires : tie.Need-is-ringless-requires Inv-loop μ-loop
 is-ringless-requires c κs = c .before .before .before .before .before .before .pre .0
 
 returns : tie.Need-returns Inv-loop μ-loop
-returns c = sym (search-stops _ _ (ringless (tableIn (c .before .before .before .before .before .before .before .before .args .rows .now)) (insideIn (c .before .before .before .before .before .before .before .before .args .marks .now)) (c .before .before .before .before .before .before .before .before .args .ids)) (c .before .before .before .before .loop .inv .1) (c .before .before .before .loop-test .taken) (ringless-told (c .before .before .before .before .before .before .before .before .args .rows .now) (c .before .before .before .before .before .before .before .before .args .marks .now) (c .before .before .before .before .before .before .before .before .args .flags .now) _ (c .before .before .before .before .before .before .before .before .pre .1) _ (c .before .is-ringless .ensures) ∙ c .if1 .taken))
+returns c =
+    let start = c .before .before .before .before .before .before .before .before in
+    sym (search-stops _ _ (ringless (tableIn (start .args .rows .now)) (insideIn (start .args .marks .now)) (start .args .ids)) (c .before .before .before .before .loop .inv .1) (c .before .before .before .loop-test .taken) (ringless-told (start .args .rows .now) (start .args .marks .now) (start .args .flags .now) _ (start .pre .1) _ (c .before .is-ringless .ensures) ∙ c .if1 .taken))
 
 add-vertex : tie.Need-add-vertex Inv-loop μ-loop
 add-vertex c = search needs
@@ -38,10 +40,12 @@ loop-less : tie.Need-loop-less Inv-loop μ-loop
 loop-less c = search needs
 
 loop-again : tie.Need-loop-again Inv-loop μ-loop
-loop-again c = (search needs, searched-more _ (ringless (tableIn (c .before .before .before .before .before .before .before .before .args .rows .now)) (insideIn (c .before .before .before .before .before .before .before .before .args .marks .now)) (c .before .before .before .before .before .before .before .before .args .ids)) (c .before .before .before .before .loop .inv .1) (ringless-told (c .before .before .before .before .before .before .before .before .args .rows .now) (c .before .before .before .before .before .before .before .before .args .marks .now) (c .before .before .before .before .before .before .before .before .args .flags .now) _ (c .before .before .before .before .before .before .before .before .pre .1) _ (c .before .is-ringless .ensures) ∙ c .if1 .left))
+loop-again c =
+    let start = c .before .before .before .before .before .before .before .before in
+    (search needs, searched-more _ (ringless (tableIn (start .args .rows .now)) (insideIn (start .args .marks .now)) (start .args .ids)) (c .before .before .before .before .loop .inv .1) (ringless-told (start .args .rows .now) (start .args .marks .now) (start .args .flags .now) _ (start .pre .1) _ (c .before .is-ringless .ensures) ∙ c .if1 .left))
 
 returns-2 : tie.Need-returns-2 Inv-loop μ-loop
-returns-2 c = sym (search-ends _ _ (ringless (tableIn (c .before .before .before .before .before .args .rows .now)) (insideIn (c .before .before .before .before .before .args .marks .now)) (c .before .before .before .before .before .args .ids)) (c .before .loop .inv .1) (c .loop-test .left))
+returns-2 c = sym (search-ends _ _ (ringless (tableIn _) (insideIn _) _) (c .before .loop .inv .1) (c .loop-test .left))
 
 pub first-ringless-spec : {M : Type 1} → statement M
 first-ringless-spec =

@@ -1,4 +1,4 @@
-use mathlib.Core.Path.{_≡_, refl, sym, _∙_, subst}
+use mathlib.Core.Path.{refl, sym, _∙_, subst}
 use mathlib.Core.Logic.{_≢_}
 use borrow.Author.Needs.{needs}
 use Rattle.table.specs.Rows.{tableIn}
@@ -15,9 +15,7 @@ across-at-requires c κs = let given = c .before .before .before .pre in neighbo
 
 returns : tie.Need-returns
 returns c =
-    let given = c .before .before .before .before .pre in
-    let args = c .before .before .before .before .args in
-    let (l, on) = c .before .way .ensures in
+    let start = c .before .before .before .before in let given = start .pre in let args = start .args in let (l, on) = c .before .way .ensures in
     subst (λ y. Near (tableIn (args .rows .now)) (args .a) (args .b) (args .x) y × (y ≢ args .from)) (sym (c .across-at .ensures ∙ given .0 .1 .at _ _ (given .2 .0 .0) l))
     (way-near (given .0 .1 .paired) refl (given .1) (given .2) _ l on)
 

@@ -1,8 +1,6 @@
 use mathlib.Core.Path.{refl}
-use Prim.Native.Nat.{_-_, _/_}
+use Prim.Native.Nat.{_-_}
 use native.Mathlib.Omega.{arith}
-use borrow.Author.Needs.{needs}
-use lib.ListN.{length}
 use Rattle.rules.specs.Proposals.{insideIn}
 use Rattle.table.specs.Rows.{tableIn, rowsIn}
 use Rattle.round.specs.Edge.{Turning, turn-begins, turn-more, turn-few, turn-next, near-below, test-goes, test-stops}
@@ -22,14 +20,11 @@ onward-requires : tie.Need-onward-requires Inv-loop μ-loop
 onward-requires c κs = let given = c .before .before .before .before .pre in (given .0, given .2, given .3)
 
 loop-holds : tie.Need-loop-holds Inv-loop μ-loop
-loop-holds c =
-    let given = c .before .before .before .before .before .pre in
-    turn-begins (given .0 .1 .paired) refl (given .2) _ (given .3) (c .onward .ensures .0) (c .onward .ensures .1)
+loop-holds c = let given = c .before .before .before .before .before .pre in turn-begins (given .0 .1 .paired) refl (given .2) _ (given .3) (c .onward .ensures .0) (c .onward .ensures .1)
 
 is-inside-requires-2 : tie.Need-is-inside-requires-2 Inv-loop μ-loop
 is-inside-requires-2 c κs =
-    let given = c .before .before .before .before .before .before .pre in
-    omega (arith, given .1, near-below (given .0 .1 .paired) refl (given .2) _ _ (c .loop .inv .next .near))
+    let given = c .before .before .before .before .before .before .pre in omega (arith, given .1, near-below (given .0 .1 .paired) refl (given .2) _ _ (c .loop .inv .next .near))
 
 onward-requires-2 : tie.Need-onward-requires-2 Inv-loop μ-loop
 onward-requires-2 c κs =

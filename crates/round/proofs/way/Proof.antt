@@ -23,9 +23,6 @@ id-at-requires c κs = (c .before .before .before .before .pre .2 .0 .0, c .loop
 across-at-requires : tie.Need-across-at-requires Inv-loop μ-loop
 across-at-requires c κs = let given = c .before .before .before .before .before .pre in neighbour-listed (given .0 .1) _ _ (given .2 .0 .0) (c .before .loop-test .taken)
 
-choose-requires : tie.Need-choose-requires Inv-loop μ-loop
-choose-requires c κs = tt
-
 add-corner : tie.Need-add-corner Inv-loop μ-loop
 add-corner c = search needs
 
@@ -35,16 +32,12 @@ loop-less c = search needs
 loop-again : tie.Need-loop-again Inv-loop μ-loop
 unfolding leads leaves
 loop-again c =
-    let given = c .before .before .before .before .before .before .before .pre in
-    let l = c .before .before .before .loop-test .taken in
-    sought-more l (c .before .before .before .before .loop .inv)
+    let given = c .before .before .before .before .before .before .before .pre in let l = c .before .before .before .loop-test .taken in sought-more l (c .before .before .before .before .loop .inv)
     (c .choose .ensures ∙ rw (c .before .before .id-at .ensures, c .before .across-at .ensures, given .0 .1 .at _ _ (given .2 .0 .0) l))
 
 returns : tie.Need-returns Inv-loop μ-loop
 returns c =
-    let given = c .before .before .before .before .pre in
-    let found = c .before .loop .inv in
-    (found .below, sought-found (given .0 .1 .paired) refl (given .1) (given .2) found (c .loop-test .left))
+    let given = c .before .before .before .before .pre in let found = c .before .loop .inv in (found .below, sought-found (given .0 .1 .paired) refl (given .1) (given .2) found (c .loop-test .left))
 
 pub way-spec : {M : Type 1} → statement M
 way-spec =
@@ -55,7 +48,7 @@ way-spec =
     loop-holds
     id-at-requires
     across-at-requires
-    choose-requires
+    (λ c κs. tt)
     add-corner
     loop-less
     loop-again

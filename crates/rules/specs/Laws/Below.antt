@@ -17,7 +17,7 @@ below-suc P n before here k h = ⊎-elim (λ e. subst P (sym e) here) (λ l. bef
 
 -- ---- one number more, as a loop counts it
 
-pub lowest-more : (n : ℕ) (p : ℕ → Bool) → lowest (n + 1) p ≡ orElse (lowest n p) (found (p n) n)
+lowest-more : (n : ℕ) (p : ℕ → Bool) → lowest (n + 1) p ≡ orElse (lowest n p) (found (p n) n)
 unfolding lowest
 lowest-more n p = rw add-one
 

@@ -14,7 +14,7 @@ use Rattle.rules.specs.Laws.Below.{Lowest, lowest-or-none, any-here, non
 
 -- ---- sums
 
-pub sum-more : (n : ℕ) (f : ℕ → ℕ) → sum (n + 1) f ≡ sum n f + f n
+sum-more : (n : ℕ) (f : ℕ → ℕ) → sum (n + 1) f ≡ sum n f + f n
 unfolding sum
 sum-more n f = rw add-one
 
@@ -44,7 +44,7 @@ sum-const zero k = sym (zero-mul k)
 sum-const (suc n) k = ap (λ (x : ℕ). x + k) (sum-const n k) ∙ sym (suc-mul n k)
 
 -- a sum of which one number alone is not 0
-pub sum-at : (n : ℕ) (f : ℕ → ℕ) (k : ℕ) → k < n → ((j : ℕ) → j < n → j ≢ k → f j ≡ 0) → sum n f ≡ f k
+sum-at : (n : ℕ) (f : ℕ → ℕ) (k : ℕ) → k < n → ((j : ℕ) → j < n → j ≢ k → f j ≡ 0) → sum n f ≡ f k
 unfolding sum
 sum-at zero f k h off = absurd (not-suc-le-zero h)
 sum-at (suc n) f k h off =
@@ -89,13 +89,13 @@ none-count n p off = sum-zero n (λ k. bit (p k)) (λ k l. bit-zero (off k l))
 
 -- ---- block by block
 
-pub sum-append : (a b : ℕ) (f : ℕ → ℕ) → sum (a + b) f ≡ sum a f + sum b (λ k. f (a + k))
+sum-append : (a b : ℕ) (f : ℕ → ℕ) → sum (a + b) f ≡ sum a f + sum b (λ k. f (a + k))
 unfolding sum
 sum-append a zero f = rw (add-zero a) (sym (add-zero (sum a f)))
 sum-append a (suc b) f = rw (add-suc a b, sum-append a b f) (omega arith)
 
 -- n blocks of m
-pub sum-blocks : (m n : ℕ) (f : ℕ → ℕ) → sum (m * n) f ≡ sum n (λ s. sum m (λ e. f (m * s + e)))
+sum-blocks : (m n : ℕ) (f : ℕ → ℕ) → sum (m * n) f ≡ sum n (λ s. sum m (λ e. f (m * s + e)))
 unfolding sum
 sum-blocks m zero f = rw (mul-zero m)
 sum-blocks m (suc n) f = rw (mul-suc m n, sum-append (m * n) m f, sum-blocks m n f)
@@ -140,7 +140,7 @@ count-some n p h =
 pub count-zero : (n : ℕ) (p : ℕ → Bool) → count n p ≡ 0 → (k : ℕ) → k < n → p k ≡ false
 count-zero n p e k h = is-false (p k) (λ t. omega (arith, count-without n p k h t))
 
-pub count-le : (n : ℕ) (p q : ℕ → Bool) → ((k : ℕ) → k < n → p k ≡ true → q k ≡ true) → count n p ≤ count n q
+count-le : (n : ℕ) (p q : ℕ → Bool) → ((k : ℕ) → k < n → p k ≡ true → q k ≡ true) → count n p ≤ count n q
 unfolding count
 count-le n p q e = sum-le n (λ k. bit (p k)) (λ k. bit (q k)) (λ k l. bit-le (p k) (q k) (e k l))
   where
@@ -224,7 +224,7 @@ the-other {n} {P} x k l p = go (x .only k l p)
     }
 
 -- and back
-pub two-of-other : {n k : ℕ} {P : ℕ → Type 0} → k < n → P k → TheOther n P k → ExactlyTwo n P
+two-of-other : {n k : ℕ} {P : ℕ → Type 0} → k < n → P k → TheOther n P k → ExactlyTwo n P
 two-of-other {n} {k} {P} l p o = record {
   one = k;
   two = o .other;
@@ -308,7 +308,7 @@ one-side n on inside k l is o = go (inside k) (inside (o .other)) refl refl
 
 -- ---- those that pass and those that do not
 
-pub count-always : (n : ℕ) (p : ℕ → Bool) → ((k : ℕ) → k < n → p k ≡ true) → count n p ≡ n
+count-always : (n : ℕ) (p : ℕ → Bool) → ((k : ℕ) → k < n → p k ≡ true) → count n p ≡ n
 unfolding count sum
 count-always zero p on = refl
 count-always (suc n) p on = rw (count-always n p (λ k l. on k (le-step l)), bit-one (on n (le-refl (suc n)))) (add-one n)

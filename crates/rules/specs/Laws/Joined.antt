@@ -50,7 +50,7 @@ chain-map f g (step {x} {y} m n c) = step (f x m) (g x y m (chain-starts c) n) (
 
 -- ---- those that pass
 
-pub those-in : (p : ℕ → Bool) (xs : List ℕ) (y : ℕ) → Among y (those p xs) → Among y xs × (p y ≡ true)
+those-in : (p : ℕ → Bool) (xs : List ℕ) (y : ℕ) → Among y (those p xs) → Among y xs × (p y ≡ true)
 unfolding those
 those-in p [] y m = absurd (List·Memᴰ·not-nil m)
 those-in p (x ∷ xs) y m = go (p x) refl m (λ i. those-in p xs y i)
@@ -61,7 +61,7 @@ those-in p (x ∷ xs) y m = go (p x) refl m (λ i. those-in p xs y i)
         ⊎-elim (λ (q : y ≡ x). (List·Memᴰ·head q, ap p q ∙ e)) (λ j. (List·Memᴰ·tail (later j .0), later j .1)) (List·Memᴰ·cases-cons i)
     go false e i later = (List·Memᴰ·tail (later i .0), later i .1)
 
-pub in-those : (p : ℕ → Bool) (xs : List ℕ) (y : ℕ) → Among y xs → p y ≡ true → Among y (those p xs)
+in-those : (p : ℕ → Bool) (xs : List ℕ) (y : ℕ) → Among y xs → p y ≡ true → Among y (those p xs)
 unfolding those
 in-those p [] y m t = absurd (List·Memᴰ·not-nil m)
 in-those p (x ∷ xs) y m t = go (p x) refl (λ i. in-those p xs y i t) (List·Memᴰ·cases-cons m)
@@ -191,7 +191,7 @@ module _ (next : ℕ → ℕ → Bool) where
           (reached-or-left next (λ a. Among a (h ∷ xs)) (suc (length xs)) (h ∷ []) xs
           (λ a i. List·Memᴰ·head (List·Memᴰ·eq-of-singleton i)) (λ a i. List·Memᴰ·tail i) z l)
 
-  pub connected-chain : (xs : List ℕ) → ((x y : ℕ) → Among x xs → Among y xs → next x y ≡ true → next y x ≡ true)
+  connected-chain : (xs : List ℕ) → ((x y : ℕ) → Among x xs → Among y xs → next x y ≡ true → next y x ≡ true)
       → connected next xs ≡ true → (x y : ℕ) → Among x xs → Among y xs → Joins xs x y
   connected-chain [] back t x y i j = absurd (List·Memᴰ·not-nil i)
   connected-chain (h ∷ xs) back t x y i j = chain-join (chain-back back (from-first h xs t x i)) (from-first h xs t y j)

@@ -75,10 +75,6 @@ module _ {ℓ} {A : Type ℓ} where
   unfolding tabulate
   tabulate-more n f = gather-more n (λ k. f k ∷ [])
 
-  pub tabulate-same : (n : ℕ) (f g : ℕ → A) → ((k : ℕ) → k < n → f k ≡ g k) → tabulate n f ≡ tabulate n g
-  unfolding tabulate
-  tabulate-same n f g e = gather-same n (λ k. f k ∷ []) (λ k. g k ∷ []) (λ k l. ap {B = List A} (λ x. x ∷ []) (e k l))
-
   pub tabulate-length : (n : ℕ) (f : ℕ → A) → length (tabulate n f) ≡ n
   unfolding tabulate gather
   tabulate-length zero f = refl

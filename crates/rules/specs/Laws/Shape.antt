@@ -131,15 +131,7 @@ module _ (k : ℕ) (l : k < 6) where
       and-second (sameFace (oppositeAt k) (edgeAt (5 - k))) (sameFace (oppositeAt (5 - k)) (edgeAt k) && apart (edgeAt k) (oppositeAt k))
       (all-each 6 oppositeTest opposites-pass k l)
 
-  -- the opposite of edge k is edge 5 - k
-  pub opposite-is : oppositeAt k ≡ edgeAt (5 - k)
-  unfolding oppositeTest
-  opposite-is =
-      same-face (oppositeAt k) (edgeAt (5 - k))
-      (and-first (sameFace (oppositeAt k) (edgeAt (5 - k))) (sameFace (oppositeAt (5 - k)) (edgeAt k) && apart (edgeAt k) (oppositeAt k))
-      (all-each 6 oppositeTest opposites-pass k l))
-
-  -- and the opposite of that is edge k
+  -- the opposite of edge 5 - k is edge k
   pub opposite-of-opposite : oppositeAt (5 - k) ≡ edgeAt k
   opposite-of-opposite =
       same-face (oppositeAt (5 - k)) (edgeAt k) (and-first (sameFace (oppositeAt (5 - k)) (edgeAt k)) (apart (edgeAt k) (oppositeAt k)) later-tests)

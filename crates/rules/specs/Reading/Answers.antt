@@ -27,7 +27,7 @@ use Rattle.rules.specs.Reading.Closed.{HoldsFace, holds-face-reads}
 abbrev pub OtherSide : Bool → (ℕ → Bool) → ℕ → Type 0
 OtherSide adding inside s = inside s ≡ adding
 
-pub other-side-reads : (adding : Bool) (inside : ℕ → Bool) (s : ℕ) → (otherSide adding inside s ≡ true) ↔ OtherSide adding inside s
+other-side-reads : (adding : Bool) (inside : ℕ → Bool) (s : ℕ) → (otherSide adding inside s ≡ true) ↔ OtherSide adding inside s
 unfolding otherSide
 other-side-reads true inside s = (λ e. e, λ e. e)
 other-side-reads false inside s = (λ e. not-true (inside s) e, λ e. ap not e)
@@ -56,7 +56,7 @@ module _ (t : Table) (inside : ℕ → Bool) (adding : Bool) (r : ℕ) where
   abbrev pub Refuses : Type 0
   Refuses = Refuses0 ⊎ (Refuses1 ⊎ Refuses2)
 
-  pub free-reads : (face : List ℕ) → (free t (otherSide adding inside) r face ≡ false) ↔ SomeOther (HoldsFace t r face)
+  free-reads : (face : List ℕ) → (free t (otherSide adding inside) r face ≡ false) ↔ SomeOther (HoldsFace t r face)
   unfolding free
   free-reads face = (
     λ e.

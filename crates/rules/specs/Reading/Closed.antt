@@ -45,7 +45,7 @@ module _ (t : Table) where
   abbrev pub Joined : (ℕ → Type 0) → Type 0
   Joined P = (x y : ℕ) → (x < t .rows) × P x → (y < t .rows) × P y → Chain (λ z. (z < t .rows) × P z) (Neighbours t) x y
 
-  pub joined-map : {P Q : ℕ → Type 0} → ((z : ℕ) → P z → Q z) → ((z : ℕ) → Q z → P z) → Joined P → Joined Q
+  joined-map : {P Q : ℕ → Type 0} → ((z : ℕ) → P z → Q z) → ((z : ℕ) → Q z → P z) → Joined P → Joined Q
   joined-map forth back joined x y (lx, px) (ly, py) =
       chain-map (λ z (l, p). (l, forth z p)) (λ a b _ _ n. n) (joined x y (lx, back x px) (ly, back y py))
 
@@ -74,7 +74,7 @@ module _ (t : Table) where
 
   -- where each row's ids rise, neighbours are mutual, so a chain from the first row reaches any other
   module _ (up : (r : ℕ) → r < t .rows → Rising t r) where
-    pub face-reads : (r : ℕ) (face : List ℕ) → (faceJoined t r face ≡ true) ↔ Joined (HoldsFace r face)
+    face-reads : (r : ℕ) (face : List ℕ) → (faceJoined t r face ≡ true) ↔ Joined (HoldsFace r face)
     unfolding faceJoined
     face-reads r face = (
       λ e x y (lx, px) (ly, py).

@@ -245,7 +245,7 @@ module _ (f : Form) (bytes : List ℕ) (lent : Lent) where
   unfolding run
   run-accepted e = rw e
 
-  pub run-refused : verdictOn f bytes lent .code ≢ 0 → run f bytes lent ≡ refused f (headerOf bytes) (verdictOn f bytes lent) lent
+  run-refused : verdictOn f bytes lent .code ≢ 0 → run f bytes lent ≡ refused f (headerOf bytes) (verdictOn f bytes lent) lent
   unfolding run
   run-refused ne = rw (ne-eqb (verdictOn f bytes lent .code) 0 ne)
 
@@ -256,7 +256,7 @@ module _ (f : Form) (bytes : List ℕ) (lent : Lent) where
       ⊎-elim (λ e. ap (λ (r : Result). r .code) (run-accepted e) ∙ sym e) (λ ne. ap (λ (r : Result). r .code) (run-refused ne))
       (same-or-not (verdictOn f bytes lent .code) 0)
 
-  pub run-place : run f bytes lent .place ≡ verdictOn f bytes lent .place
+  run-place : run f bytes lent .place ≡ verdictOn f bytes lent .place
   unfolding accepted refused verdictOn
   run-place =
       ⊎-elim (λ e. ap (λ (r : Result). r .place) (run-accepted e) ∙ sym (match-none 1 (zero-lt-suc 0) (jobTests f bytes lent) e))

@@ -152,7 +152,7 @@ module _ (t : Table) (inside : ℕ → Bool) where
         either false = rw (bit-one {b = true} refl, bit-zero {b = false} refl)
 
     -- twice the skin is at most the triangles of all rows
-    pub skin-half : 2 * length (skin t inside) ≤ t .rows * t .corners
+    skin-half : 2 * length (skin t inside) ≤ t .rows * t .corners
     skin-half = rw skin-length (omega (arith, inside-count, outside-count, all-triangles))
 
     -- at most 2N triangles

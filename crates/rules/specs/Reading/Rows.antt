@@ -1,6 +1,6 @@
 -- Rows: rising ids, dictionary order, the ids that a row holds. "First such row" is `First`.
 use mathlib.Core.Path.{_≡_}
-use mathlib.Core.Logic.{⊎-elim, _↔_}
+use mathlib.Core.Logic.{⊎-elim, _↔_, _≢_}
 use mathlib.Core.Bool.{Bool, true, _&&_}
 use mathlib.Core.Option.{some}
 use Prim.Native.Nat.{ℕ, zero, suc, _+_, _-_, _≤_, _<_}
@@ -76,6 +76,9 @@ module _ (t : Table) where
   one-corner {r} up i j l m e =
       le-antisymm (le-of-suc-le-suc (lt-of-not-le (λ (k : suc j ≤ i). omega (arith, up j i k l))))
       (le-of-suc-le-suc (lt-of-not-le (λ (k : suc i ≤ j). omega (arith, up i j k m))))
+
+  pub ids-differ : {r : ℕ} → Rising r → {i j : ℕ} → i < t .corners → j < t .corners → i ≢ j → t .id r i ≢ t .id r j
+  ids-differ up {i} {j} l m ne e = ne (one-corner up i j l m e)
 
   -- ---- dictionary order
 

@@ -15,7 +15,9 @@ is-inside-requires-2 c κs = rw (c .across-at .ensures) (c .before .before .befo
 
 returns : tie.Need-returns
 unfolding between
-returns c = unequal-xor (c .before .before .is-inside .result) (c .is-inside2 .result) ∙ rw (c .before .before .is-inside .ensures, c .is-inside2 .ensures, c .before .across-at .ensures)
+returns c =
+    let at-is-inside = c .before .before in
+    unequal-xor (at-is-inside .is-inside .result) (c .is-inside2 .result) ∙ rw (at-is-inside .is-inside .ensures, c .is-inside2 .ensures, c .before .across-at .ensures)
 
 pub is-between-spec : {M : Type 1} → statement M
 is-between-spec = tie.close (tie.spec is-inside-requires across-at-requires is-inside-requires-2 returns)

@@ -1,9 +1,7 @@
 use native.Mathlib.Omega.{arith}
-use Prim.Native.Nat.{_<_}
+use Prim.Native.Nat.{_<_, _*_, _-_}
 use Rattle.skin_list.specs.Listing.{Listing, place-fits, list-begins, next-room, list-turn, list-ends}
 use borrow.Author.Needs.{needs}
-use lib.ListN.{length}
-use Prim.Native.Nat.{_*_, _/_, _-_}
 use Rattle.skin_list.proofs.list_skin.Statement.{statement}
 use Rattle.skin_list.proofs.list_skin.Tie as tie
 use Rattle.table.specs.Rows.{rowsIn}
@@ -14,12 +12,6 @@ Inv-loop rows neighbours marks triangles₀ corners end n₀ place₀ triangles 
 abbrev μ-loop : tie.MeasureT-loop
 μ-loop rows neighbours marks triangles₀ corners end n₀ place₀ triangles n place = 4 * rowsIn rows - place
 
-corner-table-requires : tie.Need-corner-table-requires Inv-loop μ-loop
-corner-table-requires c κs = search needs
-
-row-count-requires : tie.Need-row-count-requires Inv-loop μ-loop
-row-count-requires c κs = search needs
-
 mul-end : tie.Need-mul-end Inv-loop μ-loop
 mul-end c = omega (arith, c .row-count .ensures, c .before .before .before .before .before .before .pre .0 .1 .few)
 
@@ -27,11 +19,15 @@ loop-holds : tie.Need-loop-holds Inv-loop μ-loop
 loop-holds c = list-begins _ _ _
 
 is-listed-requires : tie.Need-is-listed-requires Inv-loop μ-loop
-is-listed-requires c κs = place-fits (c .before .before .before .before .before .before .before .before .pre .0 .1) (c .before .before .before .before .before .before .before .before .args .marks .now) (c .before .before .before .before .before .before .before .before .pre .1) (c .before .loop .place) (omega (arith, c .before .before .row-count .ensures, c .loop-test .taken))
+is-listed-requires c κs =
+    let start = c .before .before .before .before .before .before .before .before in
+    place-fits (start .pre .0 .1) (start .args .marks .now) (start .pre .1) (c .before .loop .place) (omega (arith, c .before .before .row-count .ensures, c .loop-test .taken))
 
 put-requires : tie.Need-put-requires Inv-loop μ-loop
-put-requires c κs = let here : c .before .before .before .before .loop .place < 4 * rowsIn (c .before .before .before .before .before .before .before .before .before .before .before .args .rows .now) = omega (arith, c .before .before .before .before .before .row-count .ensures, c .before .before .before .loop-test .taken) in
-    (omega (arith, here), search needs, next-room (c .before .before .before .before .before .before .before .before .before .before .before .pre .0 .1) _ (c .before .before .before .before .loop .inv) here (c .before .before .before .before .before .before .before .before .before .before .before .pre .2) (c .before .before .is-listed .ensures), c .before .before .before .before .before .before .corner-table .ensures)
+put-requires c κs =
+    let turn = c .before .before .before .before in let start = turn .before .before .before .before .before .before .before in
+    let here : turn .loop .place < 4 * rowsIn (start .args .rows .now) = omega (arith, turn .before .row-count .ensures, c .before .before .before .loop-test .taken) in
+    (omega (arith, here), search needs, next-room (start .pre .0 .1) _ (turn .loop .inv) here (start .pre .2) (c .before .before .is-listed .ensures), turn .before .before .corner-table .ensures)
 
 add-place : tie.Need-add-place Inv-loop μ-loop
 add-place c = search needs
@@ -40,7 +36,9 @@ loop-less : tie.Need-loop-less Inv-loop μ-loop
 loop-less c = omega (arith, c .before .before .before .before .before .before .before .before .row-count .ensures, c .before .before .before .before .before .before .loop-test .taken)
 
 loop-again : tie.Need-loop-again Inv-loop μ-loop
-loop-again c = list-turn (c .before .before .before .before .before .before .before .before .before .before .before .before .before .before .pre .0 .1) _ (c .before .before .before .before .before .before .before .loop .inv) (omega (arith, c .before .before .before .before .before .before .before .before .row-count .ensures, c .before .before .before .before .before .before .loop-test .taken)) (c .before .before .before .before .before .before .before .before .before .before .before .before .before .before .pre .2) (c .before .before .before .before .before .is-listed .ensures) (c .before .before .put .ensures .0) (c .before .before .put .ensures .1)
+loop-again c =
+    let at-put = c .before .before in let start = at-put .before .before .before .before .before .before .before .before .before .before .before .before in
+    list-turn (start .pre .0 .1) _ (at-put .before .before .before .before .before .loop .inv) (omega (arith, at-put .before .before .before .before .before .before .row-count .ensures, at-put .before .before .before .before .loop-test .taken)) (start .pre .2) (at-put .before .before .before .is-listed .ensures) (at-put .put .ensures .0) (at-put .put .ensures .1)
 
 same-length : tie.Need-same-length Inv-loop μ-loop
 same-length c = c .before .loop .inv .kept
@@ -54,8 +52,8 @@ list-skin-spec =
     (tie.spec
     Inv-loop
     μ-loop
-    corner-table-requires
-    row-count-requires
+    (λ c κs. tt)
+    (λ c κs. tt)
     mul-end
     loop-holds
     is-listed-requires

@@ -24,11 +24,10 @@ put-ids-requires c κs = c .before .before .before .before .before .before .befo
 add-result : tie.Need-add-result
 add-result c = omega (arith, c .before .before .before .before .before .before .before .before .before .before .pre .2 (c .before .before .before .before .before .before .before .if1 .taken))
 
-same-length : tie.Need-same-length
-same-length c = search needs
-
 returns : tie.Need-returns
-returns c = rw (c .before .before .before .before .before .before .before .if1 .taken) (refl, c .before .before .put-ids .ensures ∙ triangle-put (c .before .before .before .before .before .before .before .before .before .before .args .rows .now) (c .before .before .before .before .before .before .before .before .before .before .args .row) (c .before .before .before .before .before .before .before .before .before .before .args .corner) (c .before .before .before .before .before .before .before .before .before .before .pre .1) (c .before .before .before .before .before .before .before .before .before .before .args .triangles .now) (3 * c .before .before .before .before .before .before .before .before .before .before .args .n) (c .before .before .before .before .before .before .triangle-id .ensures) (c .before .before .before .before .before .triangle-id2 .ensures) (c .before .before .before .before .triangle-id3 .ensures))
+returns c =
+    let start = c .before .before .before .before .before .before .before .before .before .before in
+    rw (c .before .before .before .before .before .before .before .if1 .taken) (refl, c .before .before .put-ids .ensures ∙ triangle-put _ _ _ (start .pre .1) _ (3 * start .args .n) (c .before .before .before .before .before .before .triangle-id .ensures) (c .before .before .before .before .before .triangle-id2 .ensures) (c .before .before .before .before .triangle-id3 .ensures))
 
 returns-2 : tie.Need-returns-2
 returns-2 c = search needs
@@ -43,6 +42,6 @@ put-spec =
     mul-put-ids
     put-ids-requires
     add-result
-    same-length
+    (λ c. search needs)
     returns
     returns-2)

@@ -28,9 +28,6 @@ mul-triangles-3 c = search needs
 slice-write-triangles-3 : tie.Need-slice-write-triangles-3
 slice-write-triangles-3 c = simp length-set (omega arith)
 
-same-length : tie.Need-same-length
-same-length c = search needs
-
 returns : tie.Need-returns
 returns c = search needs
 
@@ -46,5 +43,5 @@ put-ids-spec =
     add-triangles-2
     mul-triangles-3
     slice-write-triangles-3
-    same-length
+    (λ c. search needs)
     returns)

@@ -8,45 +8,38 @@ use Rattle.table.proofs.check_shared.Statement.{statement}
 use Rattle.table.proofs.check_shared.Tie as tie
 
 neighbours-requires : tie.Need-neighbours-requires
-neighbours-requires c κs = (ordered-rise (c .before .before .before .pre .0 .1), c .before .before .before .pre .1)
-
-enum-known-row : tie.Need-enum-known-row
-enum-known-row c = search needs
-
-clear-requires : tie.Need-clear-requires
-clear-requires c κs = search needs
-
-enum-told : tie.Need-enum-told
-enum-told c = search needs
+neighbours-requires c κs = let start = c .before .before .before in (ordered-rise (start .pre .0 .1), start .pre .1)
 
 check-joined-requires : tie.Need-check-joined-requires
-check-joined-requires c κs = (_, the-ground (c .before .before .before .before .before .before .before .before .before .args .rows .now) _ (c .before .before .before .before .before .neighbours .ensures .0) (c .before .enum-told .given .1) (c .before .before .before .before .before .before .before .before .before .pre .0 .1) (c .before .before .before .before .before .before .before .before .before .pre .1) (c .before .before .before .before .before .neighbours .ensures .1))
-
-same-length : tie.Need-same-length
-same-length c = search needs
+check-joined-requires c κs =
+    let at-neighbours = c .before .before .before .before .before in let start = at-neighbours .before .before .before .before in
+    (_, the-ground _ _ (at-neighbours .neighbours .ensures .0) (c .before .enum-told .given .1) (start .pre .0 .1) (start .pre .1) (at-neighbours .neighbours .ensures .1))
 
 returns : tie.Need-returns
 unfolding leftOf
-returns c = (triangle-broken (c .before .before .before .before .before .before .before .before .before .before .before .before .before .args .rows .now) _ (c .before .before .before .before .before .before .before .before .before .neighbours .ensures .0) (c .before .before .before .before .before .row .given .1),
-    c .before .before .clear .ensures ∙ ap (λ (n : ℕ). replicate n 0) (c .before .before .before .before .before .before .before .before .before .neighbours .ensures .1 .kept) ∙ zeros-left (c .before .before .before .before .before .before .before .before .before .before .before .before .before .args .rows .now) (c .before .before .before .before .before .before .before .before .before .before .before .before .before .args .work .now) (c .before .before .before .before .before .before .before .before .before .before .before .before .before .pre .1))
-
-same-length-2 : tie.Need-same-length-2
-same-length-2 c = search needs
+returns c =
+    let at-neighbours = c .before .before .before .before .before .before .before .before .before in (
+      triangle-broken _ _ (at-neighbours .neighbours .ensures .0) (c .before .before .before .before .before .row .given .1),
+      c .before .before .clear .ensures ∙ ap (λ (n : ℕ). replicate n 0) (at-neighbours .neighbours .ensures .1 .kept) ∙ zeros-left _ _ (at-neighbours .before .before .before .before .pre .1),
+    )
 
 returns-2 : tie.Need-returns-2
-returns-2 c = (c .before .before .check-joined .ensures .0 ∙ sym (triangle-fine (c .before .before .before .before .before .before .before .before .before .before .before .before .args .rows .now) _ (c .before .before .before .before .before .before .before .before .neighbours .ensures .0) (c .before .before .before .before .enum-told .given .1)),
-    c .before .before .check-joined .ensures .1 ∙ ap (leftOf (c .before .before .check-joined .result)) (c .before .before .before .before .before .before .before .before .neighbours .ensures .1 .list (c .before .before .before .before .enum-told .given .1)))
+returns-2 c =
+    let at-check-joined = c .before .before in let at-enum-told = at-check-joined .before .before in let at-neighbours = at-enum-told .before .before .before .before in (
+      at-check-joined .check-joined .ensures .0 ∙ sym (triangle-fine _ _ (at-neighbours .neighbours .ensures .0) (at-enum-told .enum-told .given .1)),
+      at-check-joined .check-joined .ensures .1 ∙ ap (leftOf _) (at-neighbours .neighbours .ensures .1 .list (at-enum-told .enum-told .given .1)),
+    )
 
 pub check-shared-spec : {M : Type 1} → statement M
 check-shared-spec =
     tie.close
     (tie.spec
     neighbours-requires
-    enum-known-row
-    clear-requires
-    enum-told
+    (λ c. search needs)
+    (λ c κs. tt)
+    (λ c. search needs)
     check-joined-requires
-    same-length
+    (λ c. search needs)
     returns
-    same-length-2
+    (λ c. search needs)
     returns-2)

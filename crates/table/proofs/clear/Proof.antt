@@ -1,9 +1,8 @@
 use native.Mathlib.Omega.{arith}
-use lib.ListN.{length-set}
+use lib.ListN.{length-set, length, replicate, length-replicate}
 use Rattle.rules.specs.Laws.Written.{written-none, written-whole, cleared-more}
 use Rattle.rules.specs.Job.{written}
 use borrow.Author.Needs.{needs}
-use lib.ListN.{length, replicate, length-replicate}
 use native.Mathlib.Nat.{le-refl, le-antisymm}
 use Prim.Native.Nat.{ℕ, _-_, _≤_}
 use mathlib.Core.Path.{_≡_, refl, ap, _∙_}
@@ -32,14 +31,16 @@ loop-less : tie.Need-loop-less Inv-loop μ-loop
 loop-less c = omega (arith, c .before .loop .inv .1)
 
 loop-again : tie.Need-loop-again Inv-loop μ-loop
-loop-again c = (omega (arith, c .before .loop .inv .1), rw length-set (c .before .loop .inv .1), rw (c .before .loop .inv .2) (cleared-more (c .before .loop .i) _ (omega (arith, c .before .loop .inv .1))))
+loop-again c =
+    let turn = c .before in (omega (arith, turn .loop .inv .1), rw length-set (turn .loop .inv .1), rw (turn .loop .inv .2) (cleared-more (turn .loop .i) _ (omega (arith, turn .loop .inv .1))))
 
 same-length : tie.Need-same-length Inv-loop μ-loop
 same-length c = c .before .loop .inv .1
 
 returns : tie.Need-returns Inv-loop μ-loop
-returns c = let whole = le-antisymm (c .before .loop .inv .0) (omega (arith, c .before .loop .inv .1)) in
-    c .before .loop .inv .2 ∙ ap (λ (k : ℕ). written (replicate k 0) (c .before .before .args .work .now)) whole ∙ written-whole _ _ (rw (length-replicate {A = ℕ} (length (c .before .before .args .work .now)) 0) (le-refl _))
+returns c =
+    let turn = c .before in let start = turn .before in let whole = le-antisymm (turn .loop .inv .0) (omega (arith, turn .loop .inv .1)) in
+    turn .loop .inv .2 ∙ ap (λ (k : ℕ). written (replicate k 0) (start .args .work .now)) whole ∙ written-whole _ _ (rw (length-replicate {A = ℕ} (length (start .args .work .now)) 0) (le-refl _))
 
 pub clear-spec : {M : Type 1} → statement M
 clear-spec =

@@ -10,9 +10,7 @@ on-other-side-requires : tie.Need-on-other-side-requires
 on-other-side-requires c κs = search needs
 
 on-other-side-requires-2 : tie.Need-on-other-side-requires-2
-on-other-side-requires-2 c κs =
-    let given = c .before .before .before .before .pre in
-    omega (arith, given .1, near-at (given .0 .2 .paired) refl (given .2 .edge) _ _ (given .2 .near) .0)
+on-other-side-requires-2 c κs = let given = c .before .before .before .before .pre in omega (arith, given .1, near-at (given .0 .2 .paired) refl (given .2 .edge) _ _ (given .2 .near) .0)
 
 returns : tie.Need-returns
 returns c =

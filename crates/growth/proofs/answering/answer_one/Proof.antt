@@ -13,9 +13,6 @@ mul-word-at c = search needs
 word-at-requires : tie.Need-word-at-requires
 word-at-requires c κs = search needs
 
-cast-row : tie.Need-cast-row
-cast-row c = search needs
-
 mul-word-at-2 : tie.Need-mul-word-at-2
 mul-word-at-2 c = search needs
 
@@ -25,32 +22,20 @@ add-word-at c = search needs
 word-at-requires-2 : tie.Need-word-at-requires-2
 word-at-requires-2 c κs = search needs
 
-cast-kind : tie.Need-cast-kind
-cast-kind c = search needs
-
 answer-requires : tie.Need-answer-requires
 answer-requires c κs = search needs
 
 slice-write-answers : tie.Need-slice-write-answers
 slice-write-answers c = search needs
 
-mark-of-requires : tie.Need-mark-of-requires
-mark-of-requires c κs = search needs
-
 set-mark-requires : tie.Need-set-mark-requires
-set-mark-requires c κs = λ e. rw (c .before .before .before .before .before .before .before .before .before .before .before .pre .1) (given-row (tableIn (c .before .before .before .before .before .before .before .before .before .before .before .args .rows .now)) (c .before .before .before .before .before .before .before .before .before .before .before .args .marks .now) (c .before .before .before .before .before .before .before .before .before .before .before .args .proposals .now) (c .before .before .before .before .before .before .before .before .before .before .before .args .k) (c .before .before .before .before .before .word-at .ensures) (c .before .before .before .before .word-at2 .ensures) (c .before .before .answer .ensures) e)
-
-choose-requires : tie.Need-choose-requires
-choose-requires c κs = search needs
-
-same-length : tie.Need-same-length
-same-length c = search needs
-
-same-length-2 : tie.Need-same-length-2
-same-length-2 c = search needs
+set-mark-requires c κs = λ e. rw (c .before .before .before .before .before .before .before .before .before .before .before .pre .1) (given-row (tableIn _) _ _ _ (c .before .before .before .before .before .word-at .ensures) (c .before .before .before .before .word-at2 .ensures) (c .before .before .answer .ensures) e)
 
 returns : tie.Need-returns
-returns c = (taken-is (tableIn (c .before .before .before .before .before .before .before .before .before .before .before .before .before .before .before .args .rows .now)) (c .before .before .before .before .before .before .before .before .before .before .before .before .before .before .before .args .marks .now) (c .before .before .before .before .before .before .before .before .before .before .before .before .before .before .before .args .proposals .now) (c .before .before .before .before .before .before .before .before .before .before .before .before .before .before .before .args .k) (c .before .before .before .before .before .before .before .before .before .word-at .ensures) (c .before .before .before .before .before .before .before .before .word-at2 .ensures) (c .before .before .before .before .before .before .answer .ensures) (c .choose .ensures), ap (λ (a : ℕ). set (c .before .before .before .before .before .before .before .before .before .before .before .before .before .before .before .args .answers .now) (c .before .before .before .before .before .before .before .before .before .before .before .before .before .before .before .args .k) a) (given-is (tableIn (c .before .before .before .before .before .before .before .before .before .before .before .before .before .before .before .args .rows .now)) (c .before .before .before .before .before .before .before .before .before .before .before .before .before .before .before .args .marks .now) (c .before .before .before .before .before .before .before .before .before .before .before .before .before .before .before .args .proposals .now) (c .before .before .before .before .before .before .before .before .before .before .before .before .before .before .before .args .k) (c .before .before .before .before .before .before .before .before .before .word-at .ensures) (c .before .before .before .before .before .before .before .before .word-at2 .ensures) (c .before .before .before .before .before .before .answer .ensures)), marks-are (tableIn (c .before .before .before .before .before .before .before .before .before .before .before .before .before .before .before .args .rows .now)) (c .before .before .before .before .before .before .before .before .before .before .before .before .before .before .before .args .marks .now) (c .before .before .before .before .before .before .before .before .before .before .before .before .before .before .before .args .proposals .now) (c .before .before .before .before .before .before .before .before .before .before .before .before .before .before .before .args .k) (c .before .before .before .before .before .before .before .before .before .word-at .ensures) (c .before .before .before .before .before .before .before .before .word-at2 .ensures) (c .before .before .before .before .before .before .answer .ensures) (c .before .before .before .before .before .mark-of .ensures) (c .before .before .before .set-mark .ensures))
+returns c =
+    let at-answer = c .before .before .before .before .before .before in let at-word-at2 = at-answer .before .before in let at-word-at = at-word-at2 .before in
+    let start = at-word-at .before .before .before .before .before .before in
+    (taken-is (tableIn (start .args .rows .now)) (start .args .marks .now) (start .args .proposals .now) (start .args .k) (at-word-at .word-at .ensures) (at-word-at2 .word-at2 .ensures) (at-answer .answer .ensures) (c .choose .ensures), ap (λ (a : ℕ). set (start .args .answers .now) (start .args .k) a) (given-is (tableIn (start .args .rows .now)) (start .args .marks .now) (start .args .proposals .now) (start .args .k) (at-word-at .word-at .ensures) (at-word-at2 .word-at2 .ensures) (at-answer .answer .ensures)), marks-are (tableIn (start .args .rows .now)) (start .args .marks .now) (start .args .proposals .now) (start .args .k) (at-word-at .word-at .ensures) (at-word-at2 .word-at2 .ensures) (at-answer .answer .ensures) (c .before .before .before .before .before .mark-of .ensures) (c .before .before .before .set-mark .ensures))
 
 pub answer-one-spec : {M : Type 1} → statement M
 answer-one-spec =
@@ -58,16 +43,16 @@ answer-one-spec =
     (tie.spec
     mul-word-at
     word-at-requires
-    cast-row
+    (λ c. search needs)
     mul-word-at-2
     add-word-at
     word-at-requires-2
-    cast-kind
+    (λ c. search needs)
     answer-requires
     slice-write-answers
-    mark-of-requires
+    (λ c κs. tt)
     set-mark-requires
-    choose-requires
-    same-length
-    same-length-2
+    (λ c κs. tt)
+    (λ c. search needs)
+    (λ c. search needs)
     returns)

@@ -6,9 +6,6 @@ use Rattle.growth.proofs.answering.set_mark.Tie as tie
 slice-write-marks : tie.Need-slice-write-marks
 slice-write-marks c = c .before .pre (c .if1 .taken)
 
-same-length : tie.Need-same-length
-same-length c = search needs
-
 returns : tie.Need-returns
 returns c = rw (c .if1 .taken) refl
 
@@ -16,4 +13,4 @@ returns-2 : tie.Need-returns-2
 returns-2 c = search needs
 
 pub set-mark-spec : {M : Type 1} → statement M
-set-mark-spec = tie.close (tie.spec slice-write-marks same-length returns returns-2)
+set-mark-spec = tie.close (tie.spec slice-write-marks (λ c. search needs) returns returns-2)

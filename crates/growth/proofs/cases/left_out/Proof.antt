@@ -21,15 +21,9 @@ loop-holds c = (search needs, counted-none)
 is-between-requires : tie.Need-is-between-requires Inv-loop μ-loop
 is-between-requires c κs = corner-asked (c .before .before .before .before .pre) _ (c .loop-test .taken)
 
-choose-requires : tie.Need-choose-requires Inv-loop μ-loop
-choose-requires c κs = tt
-
 add-count : tie.Need-add-count Inv-loop μ-loop
 unfolding bit
 add-count c = omega (arith, c .choose .ensures, bit-small (c .before .is-between .result), counted-small (c .before .before .before .loop .inv .1))
-
-choose-requires-2 : tie.Need-choose-requires-2 Inv-loop μ-loop
-choose-requires-2 c κs = tt
 
 add-corner : tie.Need-add-corner Inv-loop μ-loop
 add-corner c = search needs
@@ -51,9 +45,9 @@ left-out-spec =
     μ-loop
     loop-holds
     is-between-requires
-    choose-requires
+    (λ c κs. tt)
     add-count
-    choose-requires-2
+    (λ c κs. tt)
     add-corner
     loop-less
     loop-again

@@ -9,13 +9,13 @@ edge-corner-requires : tie.Need-edge-corner-requires
 edge-corner-requires c κs = search needs
 
 is-between-requires : tie.Need-is-between-requires
-is-between-requires c κs = rw (c .edge-corner .ensures) (corner-asked (c .before .before .before .pre .0) _ (edge-below (c .before .before .before .args .edge) 0 (c .before .before .before .pre .1) (lit< tt)))
+is-between-requires c κs = let start = c .before .before .before in rw (c .edge-corner .ensures) (corner-asked (start .pre .0) _ (edge-below _ 0 (start .pre .1) (lit< tt)))
 
 edge-corner-requires-2 : tie.Need-edge-corner-requires-2
 edge-corner-requires-2 c κs = search needs
 
 is-between-requires-2 : tie.Need-is-between-requires-2
-is-between-requires-2 c κs = rw (c .edge-corner2 .ensures) (corner-asked (c .before .before .before .before .before .pre .0) _ (edge-below (c .before .before .before .before .before .args .edge) 1 (c .before .before .before .before .before .pre .1) (lit< tt)))
+is-between-requires-2 c κs = let start = c .before .before .before .before .before in rw (c .edge-corner2 .ensures) (corner-asked (start .pre .0) _ (edge-below _ 1 (start .pre .1) (lit< tt)))
 
 returns : tie.Need-returns
 unfolding inBoth

@@ -6,9 +6,6 @@ use Rattle.growth.proofs.edges.opposite.Tie as tie
 array-read-from-u8 : tie.Need-array-read-from-u8
 array-read-from-u8 c = search needs
 
-from-u8-requires : tie.Need-from-u8-requires
-from-u8-requires c κs = search needs
-
 returns : tie.Need-returns
 unfolding oppositeEdge
 returns c = c .from-u8 .ensures
@@ -18,5 +15,5 @@ opposite-spec =
     tie.close
     (tie.spec
     array-read-from-u8
-    from-u8-requires
+    (λ c κs. tt)
     returns)

@@ -9,10 +9,11 @@ opposite-requires : tie.Need-opposite-requires
 opposite-requires c κs = search needs
 
 edge-corner-requires : tie.Need-edge-corner-requires
-edge-corner-requires c κs = (rw (c .opposite .ensures) (opposite-edge-below _ (c .before .pre .0)), c .before .pre .1, c .before .pre .2)
+edge-corner-requires c κs = let start = c .before in (rw (c .opposite .ensures) (opposite-edge-below _ (start .pre .0)), start .pre .1, start .pre .2)
 
 returns : tie.Need-returns
-returns c = c .edge-corner .ensures ∙ ap (λ (e : ℕ). edgeCorner e (c .before .before .args .k)) (c .before .opposite .ensures) ∙ opposite-corner-read _ (c .before .before .pre .0) _ (c .before .before .pre .1)
+returns c =
+    let start = c .before .before in c .edge-corner .ensures ∙ ap (λ (e : ℕ). edgeCorner e (start .args .k)) (c .before .opposite .ensures) ∙ opposite-corner-read _ (start .pre .0) _ (start .pre .1)
 
 pub opposite-corner-spec : {M : Type 1} → statement M
 opposite-corner-spec = tie.close (tie.spec opposite-requires edge-corner-requires returns)

@@ -21,7 +21,7 @@ unfolding any
 loop-holds c = (lit< tt, refl)
 
 in-both-requires : tie.Need-in-both-requires Inv-loop μ-loop
-in-both-requires c κs = (c .before .before .before .pre .0, c .loop .inv .0, c .before .before .before .pre .2)
+in-both-requires c κs = let start = c .before .before .before in (start .pre .0, c .loop .inv .0, start .pre .2)
 
 add-edge : tie.Need-add-edge Inv-loop μ-loop
 add-edge c = search needs
@@ -30,10 +30,14 @@ loop-less : tie.Need-loop-less Inv-loop μ-loop
 loop-less c = search needs
 
 loop-again : tie.Need-loop-again Inv-loop μ-loop
-loop-again c = unshared-more _ (c .before .before .before .before .before .pre .1) _ (c .before .before .loop .inv .0) (c .before .before .loop .inv .1) (sym (c .before .in-both .ensures) ∙ not-true _ (c .if1 .taken))
+loop-again c =
+    let turn = c .before .before in
+    unshared-more _ (turn .before .before .before .pre .1) _ (turn .loop .inv .0) (turn .loop .inv .1) (sym (c .before .in-both .ensures) ∙ not-true _ (c .if1 .taken))
 
 returns : tie.Need-returns Inv-loop μ-loop
-returns c = (c .before .before .loop .inv .0, opposite-shared _ (c .before .before .before .before .before .pre .1) _ (c .before .before .loop .inv .0) (sym (c .before .in-both .ensures) ∙ not-false _ (c .if1 .left)))
+returns c =
+    let turn = c .before .before in
+    (turn .loop .inv .0, opposite-shared _ (turn .before .before .before .pre .1) _ (turn .loop .inv .0) (sym (c .before .in-both .ensures) ∙ not-false _ (c .if1 .left)))
 
 pub shared-edge-spec : {M : Type 1} → statement M
 shared-edge-spec =

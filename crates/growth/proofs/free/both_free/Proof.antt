@@ -1,8 +1,7 @@
 use native.Mathlib.Omega.{arith}
 use mathlib.Core.Path.{_≡_, refl, sym, _∙_}
 use mathlib.Core.Bool.{false}
-use Prim.Native.Nat.{_/_, _-_}
-use lib.ListN.{length}
+use Prim.Native.Nat.{_-_}
 use borrow.Author.Needs.{needs}
 use Rattle.rules.specs.Below.{any}
 use Rattle.rules.specs.Cases.{otherSide}
@@ -18,9 +17,6 @@ Inv-loop rows marks adding a b n row₀ row = any row (touches (tableIn rows) (o
 abbrev μ-loop : tie.MeasureT-loop
 μ-loop rows marks adding a b n row₀ row = rowsIn rows - row
 
-row-count-requires : tie.Need-row-count-requires Inv-loop μ-loop
-row-count-requires c κs = search needs
-
 loop-holds : tie.Need-loop-holds Inv-loop μ-loop
 unfolding any
 loop-holds c = refl
@@ -29,7 +25,7 @@ touches-requires : tie.Need-touches-requires Inv-loop μ-loop
 touches-requires c κs = search needs
 
 returns : tie.Need-returns Inv-loop μ-loop
-returns c = touched (tableIn (c .before .before .before .before .before .before .before .args .rows .now)) _ _ _ (c .before .before .before .loop .row) (omega (arith, c .before .before .before .before .row-count .ensures, c .before .before .loop-test .taken)) (sym (c .before .touches .ensures) ∙ c .if1 .taken)
+returns c = touched (tableIn _) _ _ _ _ (omega (arith, c .before .before .before .before .row-count .ensures, c .before .before .loop-test .taken)) (sym (c .before .touches .ensures) ∙ c .if1 .taken)
 
 add-row : tie.Need-add-row Inv-loop μ-loop
 add-row c = search needs
@@ -38,10 +34,10 @@ loop-less : tie.Need-loop-less Inv-loop μ-loop
 loop-less c = omega (arith, c .before .before .before .before .row-count .ensures, c .before .before .loop-test .taken)
 
 loop-again : tie.Need-loop-again Inv-loop μ-loop
-loop-again c = untouched-more (tableIn (c .before .before .before .before .before .before .before .args .rows .now)) _ _ _ (c .before .before .before .loop .row) (c .before .before .before .loop .inv) (sym (c .before .touches .ensures) ∙ c .if1 .left)
+loop-again c = untouched-more (tableIn _) _ _ _ _ (c .before .before .before .loop .inv) (sym (c .before .touches .ensures) ∙ c .if1 .left)
 
 returns-2 : tie.Need-returns-2 Inv-loop μ-loop
-returns-2 c = untouched (tableIn (c .before .before .before .before .before .args .rows .now)) _ _ _ (c .before .loop .row) (c .before .loop .inv) (omega (arith, c .before .before .row-count .ensures, c .loop-test .left))
+returns-2 c = untouched (tableIn _) _ _ _ _ (c .before .loop .inv) (omega (arith, c .before .before .row-count .ensures, c .loop-test .left))
 
 pub both-free-spec : {M : Type 1} → statement M
 both-free-spec =
@@ -49,7 +45,7 @@ both-free-spec =
     (tie.spec
     Inv-loop
     μ-loop
-    row-count-requires
+    (λ c κs. tt)
     loop-holds
     touches-requires
     returns

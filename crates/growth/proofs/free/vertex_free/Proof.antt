@@ -12,7 +12,7 @@ both-free-requires : tie.Need-both-free-requires
 both-free-requires c κs = search needs
 
 returns : tie.Need-returns
-returns c = c .both-free .ensures ∙ rw (c .before .id-at .ensures) (both-vertex (tableIn (c .before .before .before .before .args .rows .now)) _ (c .before .before .before .before .args .row) (c .before .before .before .before .args .corner))
+returns c = c .both-free .ensures ∙ rw (c .before .id-at .ensures) (both-vertex (tableIn _) _ _ _)
 
 pub vertex-free-spec : {M : Type 1} → statement M
 vertex-free-spec = tie.close (tie.spec id-at-requires both-free-requires returns)

@@ -26,7 +26,7 @@ vertex-free-requires : tie.Need-vertex-free-requires Inv-loop μ-loop
 vertex-free-requires c κs = search needs
 
 returns : tie.Need-returns Inv-loop μ-loop
-returns c = sym (fails-all 4 _ (c .before .before .before .loop .corner) (c .before .before .loop-test .taken) (sym (c .before .vertex-free .ensures) ∙ not-true _ (c .if1 .taken)))
+returns c = sym (fails-all 4 _ _ (c .before .before .loop-test .taken) (sym (c .before .vertex-free .ensures) ∙ not-true _ (c .if1 .taken)))
 
 add-corner : tie.Need-add-corner Inv-loop μ-loop
 add-corner c = search needs
@@ -35,10 +35,10 @@ loop-less : tie.Need-loop-less Inv-loop μ-loop
 loop-less c = search needs
 
 loop-again : tie.Need-loop-again Inv-loop μ-loop
-loop-again c = all-yet (c .before .before .before .loop .corner) _ (c .before .before .before .loop .inv) (sym (c .before .vertex-free .ensures) ∙ not-false _ (c .if1 .left))
+loop-again c = all-yet _ _ (c .before .before .before .loop .inv) (sym (c .before .vertex-free .ensures) ∙ not-false _ (c .if1 .left))
 
 returns-2 : tie.Need-returns-2 Inv-loop μ-loop
-returns-2 c = all-of-them 4 (c .before .loop .corner) _ (c .before .loop .inv) (c .loop-test .left)
+returns-2 c = all-of-them 4 _ _ (c .before .loop .inv) (c .loop-test .left)
 
 pub vertices-free-spec : {M : Type 1} → statement M
 vertices-free-spec =

@@ -24,10 +24,7 @@ shared-slice-read-print-number : tie.Need-shared-slice-read-print-number Inv-loo
 shared-slice-read-print-number c = search needs
 
 cast-print-number : tie.Need-cast-print-number Inv-loop μ-loop
-cast-print-number c = omega (arith, c .shared-slice-known3 .given (c .before .before .loop .i))
-
-print-number-requires : tie.Need-print-number-requires Inv-loop μ-loop
-print-number-requires c κs = search needs
+cast-print-number c = omega (arith, c .shared-slice-known3 .given _)
 
 add-i : tie.Need-add-i Inv-loop μ-loop
 add-i c = search needs
@@ -58,7 +55,7 @@ print-words-spec =
     mul-print-number
     shared-slice-read-print-number
     cast-print-number
-    print-number-requires
+    (λ c κs. tt)
     add-i
     loop-less
     loop-again

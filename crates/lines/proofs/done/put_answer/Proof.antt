@@ -19,14 +19,15 @@ slice-aggregate-put-line-2 c = search needs
 
 put-line-requires : tie.Need-put-line-requires
 unfolding answerLine
-put-line-requires c κs = omega (arith, answer-few (c .before .before .before .before .before .before .args .answers .now) (c .before .before .before .before .before .before .args .k) (c .before .before .before .before .before .before .pre .0) (omega (arith, c .before .before .before .shared-slice-known2 .given (c .before .before .before .before .before .before .args .k))))
-
-same-length : tie.Need-same-length
-same-length c = search needs
+put-line-requires c κs =
+    let start = c .before .before .before .before .before .before in
+    omega (arith, answer-few (start .args .answers .now) (start .args .k) (start .pre .0) (omega (arith, c .before .before .before .shared-slice-known2 .given (start .args .k))))
 
 returns : tie.Need-returns
 unfolding answerLine
-returns c = (c .before .before .put-line .ensures, omega (arith, c .before .before .put-line .ensures .behind, answer-few (c .before .before .before .before .before .before .before .before .before .args .answers .now) (c .before .before .before .before .before .before .before .before .before .args .k) (c .before .before .before .before .before .before .before .before .before .pre .0) (omega (arith, c .before .before .before .before .before .before .shared-slice-known2 .given (c .before .before .before .before .before .before .before .before .before .args .k)))))
+returns c =
+    let at-put-line = c .before .before in let start = at-put-line .before .before .before .before .before .before .before in
+    (at-put-line .put-line .ensures, omega (arith, at-put-line .put-line .ensures .behind, answer-few (start .args .answers .now) (start .args .k) (start .pre .0) (omega (arith, at-put-line .before .before .before .before .shared-slice-known2 .given (start .args .k)))))
 
 pub put-answer-spec : {M : Type 1} → statement M
 put-answer-spec =
@@ -37,5 +38,5 @@ put-answer-spec =
     slice-aggregate-put-line
     slice-aggregate-put-line-2
     put-line-requires
-    same-length
+    (λ c. search needs)
     returns)

@@ -37,11 +37,10 @@ slice-aggregate-put-line-2 c = search needs
 put-line-requires : tie.Need-put-line-requires
 put-line-requires c κs = omega (arith, triangle-few (c .before .before .before .before .before .id-at .ensures .1) (c .before .before .before .before .id-at2 .ensures .1) (c .before .before .before .id-at3 .ensures .1))
 
-same-length : tie.Need-same-length
-same-length c = search needs
-
 returns : tie.Need-returns
-returns c = (triangle-put _ _ (c .before .before .before .before .before .before .before .before .id-at .ensures .0) (c .before .before .before .before .before .before .before .id-at2 .ensures .0) (c .before .before .before .before .before .before .id-at3 .ensures .0) (c .before .before .put-line .ensures), omega (arith, c .before .before .put-line .ensures .behind, triangle-few (c .before .before .before .before .before .before .before .before .id-at .ensures .1) (c .before .before .before .before .before .before .before .id-at2 .ensures .1) (c .before .before .before .before .before .before .id-at3 .ensures .1)))
+returns c =
+    let at-put-line = c .before .before in let at-id-at3 = at-put-line .before .before .before .before in let at-id-at2 = at-id-at3 .before in let at-id-at = at-id-at2 .before in
+    (triangle-put _ _ (at-id-at .id-at .ensures .0) (at-id-at2 .id-at2 .ensures .0) (at-id-at3 .id-at3 .ensures .0) (at-put-line .put-line .ensures), omega (arith, at-put-line .put-line .ensures .behind, triangle-few (at-id-at .id-at .ensures .1) (at-id-at2 .id-at2 .ensures .1) (at-id-at3 .id-at3 .ensures .1)))
 
 pub put-triangle-spec : {M : Type 1} → statement M
 put-triangle-spec =
@@ -58,5 +57,5 @@ put-triangle-spec =
     slice-aggregate-put-line
     slice-aggregate-put-line-2
     put-line-requires
-    same-length
+    (λ c. search needs)
     returns)

@@ -25,7 +25,9 @@ loop-less : tie.Need-loop-less Inv-loop μ-loop
 loop-less c = search needs
 
 loop-again : tie.Need-loop-again Inv-loop μ-loop
-loop-again c = line-turn (c .before .before .before .before .before .loop .inv) (c .before .before .before .before .loop-test .taken) (c .before .before .put-triangle .ensures .0) (c .before .before .put-triangle .ensures .1)
+loop-again c =
+    let at-put-triangle = c .before .before in
+    line-turn (at-put-triangle .before .before .before .loop .inv) (at-put-triangle .before .before .loop-test .taken) (at-put-triangle .put-triangle .ensures .0) (at-put-triangle .put-triangle .ensures .1)
 
 same-length : tie.Need-same-length Inv-loop μ-loop
 same-length c = put-kept (c .before .loop .inv .turns .put)

@@ -9,11 +9,8 @@ put-byte-requires c κs = search needs
 put-number-requires : tie.Need-put-number-requires
 put-number-requires c κs = search needs
 
-same-length : tie.Need-same-length
-same-length c = search needs
-
 returns : tie.Need-returns
 returns c = put-more (c .before .before .before .before .before .before .put-byte .ensures) (c .before .before .put-number .ensures)
 
 pub put-spaced-spec : {M : Type 1} → statement M
-put-spaced-spec = tie.close (tie.spec put-byte-requires put-number-requires same-length returns)
+put-spaced-spec = tie.close (tie.spec put-byte-requires put-number-requires (λ c. search needs) returns)

@@ -1,6 +1,5 @@
-use Rattle.rings.specs.Ends.{ends}
+use Rattle.rings.specs.Ends.{ends, linked, room-after}
 use mathlib.Core.Path.{refl, ap, _∙_}
-use Rattle.rings.specs.Ends.{linked, room-after}
 use borrow.Author.Needs.{needs}
 use Rattle.rings.proofs.ends.join.Statement.{statement}
 use Rattle.rings.proofs.ends.join.Tie as tie
@@ -9,7 +8,8 @@ link-requires : tie.Need-link-requires
 link-requires c κs = search needs
 
 link-requires-2 : tie.Need-link-requires-2
-link-requires-2 c κs = (c .before .before .before .before .before .before .before .before .pre .1, c .before .before .before .before .before .before .before .before .pre .0, room-after (ends (c .before .before .before .before .before .before .before .before .args .degree .now) (c .before .before .before .before .before .before .before .before .args .last .now) (c .before .before .before .before .before .before .before .before .args .before .now)) (c .before .before .before .before .before .before .before .before .pre) (c .before .before .before .link .ensures))
+link-requires-2 c κs =
+    let start = c .before .before .before .before .before .before .before .before in (start .pre .1, start .pre .0, room-after (ends _ _ _) (start .pre) (c .before .before .before .link .ensures))
 
 returns : tie.Need-returns
 returns c = rw (c .before .before .before .before .before .before .before .before .if1 .taken) (c .link2 .ensures ∙ ap (linked _ _) (c .before .before .before .before .link .ensures))

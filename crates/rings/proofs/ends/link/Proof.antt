@@ -31,9 +31,6 @@ mul-before-2 c = search needs
 element-write-before : tie.Need-element-write-before
 element-write-before c = search needs
 
-cast-last : tie.Need-cast-last
-cast-last c = search needs
-
 mul-last : tie.Need-mul-last
 mul-last c = search needs
 
@@ -57,7 +54,7 @@ link-spec =
     element-copy-out-before
     mul-before-2
     element-write-before
-    cast-last
+    (λ c. search needs)
     mul-last
     element-write-last
     returns)

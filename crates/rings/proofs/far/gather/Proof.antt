@@ -12,14 +12,12 @@ Inv-loop rows neighbours marks corners ids vertex degree₀ last₀ before₀ n 
 abbrev μ-loop : tie.MeasureT-loop
 μ-loop rows neighbours marks corners ids vertex degree₀ last₀ before₀ n row₀ degree last before row = n - row
 
-row-count-requires : tie.Need-row-count-requires Inv-loop μ-loop
-row-count-requires c κs = search needs
-
 loop-holds : tie.Need-loop-holds Inv-loop μ-loop
-loop-holds c = (search needs, gather-begins (c .before .before .before .before .pre .0) _ (c .before .before .before .before .pre .1))
+loop-holds c = let start = c .before .before .before .before in (search needs, gather-begins (start .pre .0) _ (start .pre .1))
 
 gather-row-requires : tie.Need-gather-row-requires Inv-loop μ-loop
-gather-row-requires c κs = (c .before .before .before .before .before .before .before .before .before .pre .0, search needs, c .before .before .before .before .loop .inv .1, c .before .before .before .before .before .before .before .before .before .pre .2)
+gather-row-requires c κs =
+    let start = c .before .before .before .before .before .before .before .before .before in (start .pre .0, search needs, c .before .before .before .before .loop .inv .1, start .pre .2)
 
 add-row : tie.Need-add-row Inv-loop μ-loop
 add-row c = omega (arith, c .before .before .before .before .before .loop .inv .0, c .before .before .before .before .before .before .before .before .before .before .pre .0 .ground .few, c .before .before .before .before .before .before .row-count .ensures)
@@ -39,7 +37,7 @@ gather-spec =
     (tie.spec
     Inv-loop
     μ-loop
-    row-count-requires
+    (λ c κs. tt)
     loop-holds
     gather-row-requires
     add-row

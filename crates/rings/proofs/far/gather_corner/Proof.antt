@@ -8,22 +8,19 @@ face-of-requires : tie.Need-face-of-requires
 face-of-requires c κs = search needs
 
 is-between-requires : tie.Need-is-between-requires
-is-between-requires c κs = (neighbour-listed (c .before .before .before .before .pre .0 .ground) _ _ (c .before .before .before .before .pre .1) (c .before .before .before .before .pre .2), rw (c .before .before .before .before .pre .0 .each) (c .before .before .before .before .pre .1), rw (c .before .before .before .before .pre .0 .each) (neighbour-below (c .before .before .before .before .pre .0 .ground) _ _ (c .before .before .before .before .pre .1) (c .before .before .before .before .pre .2)))
-
-in-face-requires : tie.Need-in-face-requires
-in-face-requires c κs = search needs
-
-first-end-requires : tie.Need-first-end-requires
-first-end-requires c κs = search needs
-
-second-end-requires : tie.Need-second-end-requires
-second-end-requires c κs = search needs
+is-between-requires c κs =
+    let start = c .before .before .before .before in
+    (neighbour-listed (start .pre .0 .ground) _ _ (start .pre .1) (start .pre .2), rw (start .pre .0 .each) (start .pre .1), rw (start .pre .0 .each) (neighbour-below (start .pre .0 .ground) _ _ (start .pre .1) (start .pre .2)))
 
 join-requires : tie.Need-join-requires
-join-requires c κs = gather-room (c .before .before .before .before .before .before .before .before .before .before .before .pre .0) _ _ _ (c .before .before .before .before .before .before .before .before .before .before .before .pre .1) (c .before .before .before .before .before .before .before .before .before .before .before .pre .2) (c .before .before .before .before .before .before .before .before .before .before .before .pre .4) (c .before .before .before .before .before .before .before .face-of .ensures) (c .before .before .before .before .first-end .ensures) (c .before .before .before .second-end .ensures)
+join-requires c κs =
+    let start = c .before .before .before .before .before .before .before .before .before .before .before in
+    gather-room (start .pre .0) _ _ _ (start .pre .1) (start .pre .2) (start .pre .4) (c .before .before .before .before .before .before .before .face-of .ensures) (c .before .before .before .before .first-end .ensures) (c .before .before .before .second-end .ensures)
 
 returns : tie.Need-returns
-returns c = gather-turn (c .before .before .before .before .before .before .before .before .before .before .before .before .pre .0) _ _ _ (c .before .before .before .before .before .before .before .before .before .before .before .before .pre .1) (c .before .before .before .before .before .before .before .before .before .before .before .before .pre .2) (c .before .before .before .before .before .before .before .before .before .before .before .before .pre .4) (c .before .before .before .before .before .before .before .before .face-of .ensures) (c .before .before .before .before .before .first-end .ensures) (c .before .before .before .before .second-end .ensures) (c .before .before .before .before .before .before .before .before .before .before .before .before .pre .3) (c .before .before .before .before .before .before .before .is-between .ensures) (c .before .before .before .before .before .before .in-face .ensures) (c .join .ensures)
+returns c =
+    let start = c .before .before .before .before .before .before .before .before .before .before .before .before in
+    gather-turn (start .pre .0) _ _ _ (start .pre .1) (start .pre .2) (start .pre .4) (c .before .before .before .before .before .before .before .before .face-of .ensures) (c .before .before .before .before .before .first-end .ensures) (c .before .before .before .before .second-end .ensures) (start .pre .3) (c .before .before .before .before .before .before .before .is-between .ensures) (c .before .before .before .before .before .before .in-face .ensures) (c .join .ensures)
 
 pub gather-corner-spec : {M : Type 1} → statement M
 gather-corner-spec =
@@ -31,8 +28,8 @@ gather-corner-spec =
     (tie.spec
     face-of-requires
     is-between-requires
-    in-face-requires
-    first-end-requires
-    second-end-requires
+    (λ c κs. tt)
+    (λ c κs. tt)
+    (λ c κs. tt)
     join-requires
     returns)

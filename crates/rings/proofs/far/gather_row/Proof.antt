@@ -18,28 +18,39 @@ is-inside-requires : tie.Need-is-inside-requires
 is-inside-requires c κs = search needs
 
 returns : tie.Need-returns
-returns c = gather-skips (c .before .before .before .before .before .pre .0) _ _ (c .before .before .before .before .before .pre .1) (inl (sym (c .before .is-inside .ensures) ∙ not-true _ (c .if1 .taken))) (c .before .before .before .before .before .pre .2)
+returns c =
+    let start = c .before .before .before .before .before in gather-skips (start .pre .0) _ _ (start .pre .1) (inl (sym (c .before .is-inside .ensures) ∙ not-true _ (c .if1 .taken))) (start .pre .2)
 
 holds-requires : tie.Need-holds-requires
 holds-requires c κs = search needs
 
 returns-2 : tie.Need-returns-2
-returns-2 c = gather-skips (c .before .before .before .before .before .before .before .pre .0) _ _ (c .before .before .before .before .before .before .before .pre .1) (inr (sym (c .before .holds .ensures) ∙ not-true _ (c .if2 .taken))) (c .before .before .before .before .before .before .before .pre .2)
+returns-2 c =
+    let start = c .before .before .before .before .before .before .before in
+    gather-skips (start .pre .0) _ _ (start .pre .1) (inr (sym (c .before .holds .ensures) ∙ not-true _ (c .if2 .taken))) (start .pre .2)
 
 gather-corner-requires : tie.Need-gather-corner-requires
-gather-corner-requires c κs = (c .before .before .before .before .before .before .before .before .before .before .pre .0, c .before .before .before .before .before .before .before .before .before .before .pre .1, lit< tt, (sym (c .before .before .before .before .before .before .is-inside .ensures) ∙ not-false _ (c .before .before .before .before .before .if1 .left)), moved (c .before .before .before .before .before .before .before .before .before .before .args .rows .now) (c .before .before .before .before .before .before .before .before .before .before .args .marks .now) (c .before .before .before .before .before .before .before .before .before .before .args .vertex) (omega arith) (c .before .before .before .before .before .before .before .before .before .before .pre .2), c .before .before .before .before .before .before .before .before .before .before .pre .3)
+gather-corner-requires c κs =
+    let start = c .before .before .before .before .before .before .before .before .before .before in
+    (start .pre .0, start .pre .1, lit< tt, (sym (c .before .before .before .before .before .before .is-inside .ensures) ∙ not-false _ (c .before .before .before .before .before .if1 .left)), moved _ _ _ (omega arith) (start .pre .2), start .pre .3)
 
 gather-corner-requires-2 : tie.Need-gather-corner-requires-2
-gather-corner-requires-2 c κs = (c .before .before .before .before .before .before .before .before .before .before .before .before .before .before .pre .0, c .before .before .before .before .before .before .before .before .before .before .before .before .before .before .pre .1, lit< tt, (sym (c .before .before .before .before .before .before .before .before .before .before .is-inside .ensures) ∙ not-false _ (c .before .before .before .before .before .before .before .before .before .if1 .left)), moved (c .before .before .before .before .before .before .before .before .before .before .before .before .before .before .args .rows .now) (c .before .before .before .before .before .before .before .before .before .before .before .before .before .before .args .marks .now) (c .before .before .before .before .before .before .before .before .before .before .before .before .before .before .args .vertex) (omega arith) (c .before .before .before .gather-corner .ensures), c .before .before .before .before .before .before .before .before .before .before .before .before .before .before .pre .3)
+gather-corner-requires-2 c κs =
+    let start = c .before .before .before .before .before .before .before .before .before .before .before .before .before .before in
+    (start .pre .0, start .pre .1, lit< tt, (sym (c .before .before .before .before .before .before .before .before .before .before .is-inside .ensures) ∙ not-false _ (c .before .before .before .before .before .before .before .before .before .if1 .left)), moved _ _ _ (omega arith) (c .before .before .before .gather-corner .ensures), start .pre .3)
 
 gather-corner-requires-3 : tie.Need-gather-corner-requires-3
-gather-corner-requires-3 c κs = (c .before .before .before .before .before .before .before .before .before .before .before .before .before .before .before .before .before .before .pre .0, c .before .before .before .before .before .before .before .before .before .before .before .before .before .before .before .before .before .before .pre .1, lit< tt, (sym (c .before .before .before .before .before .before .before .before .before .before .before .before .before .before .is-inside .ensures) ∙ not-false _ (c .before .before .before .before .before .before .before .before .before .before .before .before .before .if1 .left)), moved (c .before .before .before .before .before .before .before .before .before .before .before .before .before .before .before .before .before .before .args .rows .now) (c .before .before .before .before .before .before .before .before .before .before .before .before .before .before .before .before .before .before .args .marks .now) (c .before .before .before .before .before .before .before .before .before .before .before .before .before .before .before .before .before .before .args .vertex) (omega arith) (c .before .before .before .gather-corner2 .ensures), c .before .before .before .before .before .before .before .before .before .before .before .before .before .before .before .before .before .before .pre .3)
+gather-corner-requires-3 c κs =
+    let start = c .before .before .before .before .before .before .before .before .before .before .before .before .before .before .before .before .before .before in
+    (start .pre .0, start .pre .1, lit< tt, (sym (c .before .before .before .before .before .before .before .before .before .before .before .before .before .before .is-inside .ensures) ∙ not-false _ (c .before .before .before .before .before .before .before .before .before .before .before .before .before .if1 .left)), moved _ _ _ (omega arith) (c .before .before .before .gather-corner2 .ensures), start .pre .3)
 
 gather-corner-requires-4 : tie.Need-gather-corner-requires-4
-gather-corner-requires-4 c κs = (c .before .before .before .before .before .before .before .before .before .before .before .before .before .before .before .before .before .before .before .before .before .before .pre .0, c .before .before .before .before .before .before .before .before .before .before .before .before .before .before .before .before .before .before .before .before .before .before .pre .1, lit< tt, (sym (c .before .before .before .before .before .before .before .before .before .before .before .before .before .before .before .before .before .before .is-inside .ensures) ∙ not-false _ (c .before .before .before .before .before .before .before .before .before .before .before .before .before .before .before .before .before .if1 .left)), moved (c .before .before .before .before .before .before .before .before .before .before .before .before .before .before .before .before .before .before .before .before .before .before .args .rows .now) (c .before .before .before .before .before .before .before .before .before .before .before .before .before .before .before .before .before .before .before .before .before .before .args .marks .now) (c .before .before .before .before .before .before .before .before .before .before .before .before .before .before .before .before .before .before .before .before .before .before .args .vertex) (omega arith) (c .before .before .before .gather-corner3 .ensures), c .before .before .before .before .before .before .before .before .before .before .before .before .before .before .before .before .before .before .before .before .before .before .pre .3)
+gather-corner-requires-4 c κs =
+    let start = c .before .before .before .before .before .before .before .before .before .before .before .before .before .before .before .before .before .before .before .before .before .before in
+    (start .pre .0, start .pre .1, lit< tt, (sym (c .before .before .before .before .before .before .before .before .before .before .before .before .before .before .before .before .before .before .is-inside .ensures) ∙ not-false _ (c .before .before .before .before .before .before .before .before .before .before .before .before .before .before .before .before .before .if1 .left)), moved _ _ _ (omega arith) (c .before .before .before .gather-corner3 .ensures), start .pre .3)
 
 returns-3 : tie.Need-returns-3
-returns-3 c = moved (c .before .before .before .before .before .before .before .before .before .before .before .before .before .before .before .before .before .before .before .before .before .before .before .args .rows .now) (c .before .before .before .before .before .before .before .before .before .before .before .before .before .before .before .before .before .before .before .before .before .before .before .args .marks .now) (c .before .before .before .before .before .before .before .before .before .before .before .before .before .before .before .before .before .before .before .before .before .before .before .args .vertex) (omega arith) (c .gather-corner4 .ensures)
+returns-3 c = moved _ _ _ (omega arith) (c .gather-corner4 .ensures)
 
 pub gather-row-spec : {M : Type 1} → statement M
 gather-row-spec =

@@ -1,14 +1,10 @@
 use Rattle.rings.specs.Far.{secondEnd}
-use borrow.Author.Needs.{needs}
 use Rattle.rings.proofs.far.second_end.Statement.{statement}
 use Rattle.rings.proofs.far.second_end.Tie as tie
-
-choose-requires : tie.Need-choose-requires
-choose-requires c κs = search needs
 
 returns : tie.Need-returns
 unfolding secondEnd
 returns c = c .choose .ensures
 
 pub second-end-spec : {M : Type 1} → statement M
-second-end-spec = tie.close (tie.spec choose-requires returns)
+second-end-spec = tie.close (tie.spec (λ c κs. tt) returns)

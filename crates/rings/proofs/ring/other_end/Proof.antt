@@ -9,20 +9,11 @@ mul-from-u16 c = search needs
 element-copy-out-from-u16 : tie.Need-element-copy-out-from-u16
 element-copy-out-from-u16 c = search needs
 
-from-u16-requires : tie.Need-from-u16-requires
-from-u16-requires c κs = search needs
-
 mul-from-u16-2 : tie.Need-mul-from-u16-2
 mul-from-u16-2 c = search needs
 
 element-copy-out-from-u16-2 : tie.Need-element-copy-out-from-u16-2
 element-copy-out-from-u16-2 c = search needs
-
-from-u16-requires-2 : tie.Need-from-u16-requires-2
-from-u16-requires-2 c κs = search needs
-
-choose-requires : tie.Need-choose-requires
-choose-requires c κs = search needs
 
 returns : tie.Need-returns
 unfolding otherEnd
@@ -34,9 +25,9 @@ other-end-spec =
     (tie.spec
     mul-from-u16
     element-copy-out-from-u16
-    from-u16-requires
+    (λ c κs. tt)
     mul-from-u16-2
     element-copy-out-from-u16-2
-    from-u16-requires-2
-    choose-requires
+    (λ c κs. tt)
+    (λ c κs. tt)
     returns)

@@ -28,34 +28,45 @@ loop-holds : tie.Need-loop-holds Inv-loop μ-loop
 loop-holds c = λ far v here. reach-begins v _ (c .args .stamp .now) (c .args .queue .now) here (c .pre .1) (c .pre .2) (c .pre .3)
 
 mul-loop : tie.Need-mul-loop Inv-loop μ-loop
-mul-loop c = omega (arith, few-reached (c .before .pre .0 .1) (c .loop .inv (c .before .pre .0 .0) (c .before .pre .0 .1) (c .before .pre .0 .2)))
+mul-loop c = let start = c .before in omega (arith, few-reached (start .pre .0 .1) (c .loop .inv (start .pre .0 .0) (start .pre .0 .1) (start .pre .0 .2)))
 
 mul-from-u16 : tie.Need-mul-from-u16 Inv-loop μ-loop
-mul-from-u16 c = omega (arith, few-reached (c .before .before .pre .0 .1) (c .before .loop .inv (c .before .before .pre .0 .0) (c .before .before .pre .0 .1) (c .before .before .pre .0 .2)), c .loop-test .taken)
+mul-from-u16 c = let start = c .before .before in omega (arith, few-reached (start .pre .0 .1) (c .before .loop .inv (start .pre .0 .0) (start .pre .0 .1) (start .pre .0 .2)), c .loop-test .taken)
 
 element-copy-out-from-u16 : tie.Need-element-copy-out-from-u16 Inv-loop μ-loop
-element-copy-out-from-u16 c = omega (arith, few-reached (c .before .before .pre .0 .1) (c .before .loop .inv (c .before .before .pre .0 .0) (c .before .before .pre .0 .1) (c .before .before .pre .0 .2)), c .loop-test .taken)
-
-from-u16-requires : tie.Need-from-u16-requires Inv-loop μ-loop
-from-u16-requires c κs = tt
+element-copy-out-from-u16 c =
+    let start = c .before .before in omega (arith, few-reached (start .pre .0 .1) (c .before .loop .inv (start .pre .0 .0) (start .pre .0 .1) (start .pre .0 .2)), c .loop-test .taken)
 
 other-end-requires : tie.Need-other-end-requires Inv-loop μ-loop
-other-end-requires c κs = omega (arith, c .before .before .before .before .pre .0 .1 .few, reached-below (c .before .before .before .before .pre .0 .1) (c .before .before .before .loop .inv (c .before .before .before .before .pre .0 .0) (c .before .before .before .before .pre .0 .1) (c .before .before .before .before .pre .0 .2)) (c .before .before .loop-test .taken) (c .from-u16 .ensures))
+other-end-requires c κs =
+    let start = c .before .before .before .before in
+    omega (arith, start .pre .0 .1 .few, reached-below (start .pre .0 .1) (c .before .before .before .loop .inv (start .pre .0 .0) (start .pre .0 .1) (start .pre .0 .2)) (c .before .before .loop-test .taken) (c .from-u16 .ensures))
 
 mul-fresh : tie.Need-mul-fresh Inv-loop μ-loop
-mul-fresh c = omega (arith, c .before .before .before .before .before .pre .0 .1 .few, next-below (c .before .before .before .before .before .pre .0 .1) (c .before .before .before .before .loop .inv (c .before .before .before .before .before .pre .0 .0) (c .before .before .before .before .before .pre .0 .1) (c .before .before .before .before .before .pre .0 .2)) (c .before .before .before .loop-test .taken) (c .before .from-u16 .ensures) (c .other-end .ensures))
+mul-fresh c =
+    let start = c .before .before .before .before .before in
+    omega (arith, start .pre .0 .1 .few, next-below (start .pre .0 .1) (c .before .before .before .before .loop .inv (start .pre .0 .0) (start .pre .0 .1) (start .pre .0 .2)) (c .before .before .before .loop-test .taken) (c .before .from-u16 .ensures) (c .other-end .ensures))
 
 element-copy-out-fresh : tie.Need-element-copy-out-fresh Inv-loop μ-loop
-element-copy-out-fresh c = omega (arith, c .before .before .before .before .before .pre .0 .1 .few, next-below (c .before .before .before .before .before .pre .0 .1) (c .before .before .before .before .loop .inv (c .before .before .before .before .before .pre .0 .0) (c .before .before .before .before .before .pre .0 .1) (c .before .before .before .before .before .pre .0 .2)) (c .before .before .before .loop-test .taken) (c .before .from-u16 .ensures) (c .other-end .ensures))
+element-copy-out-fresh c =
+    let start = c .before .before .before .before .before in
+    omega (arith, start .pre .0 .1 .few, next-below (start .pre .0 .1) (c .before .before .before .before .loop .inv (start .pre .0 .0) (start .pre .0 .1) (start .pre .0 .2)) (c .before .before .before .loop-test .taken) (c .before .from-u16 .ensures) (c .other-end .ensures))
 
 visit-requires : tie.Need-visit-requires Inv-loop μ-loop
-visit-requires c κs = (omega (arith, c .before .before .before .before .before .before .before .before .pre .0 .1 .few, next-below (c .before .before .before .before .before .before .before .before .pre .0 .1) (c .before .before .before .before .before .before .before .loop .inv (c .before .before .before .before .before .before .before .before .pre .0 .0) (c .before .before .before .before .before .before .before .before .pre .0 .1) (c .before .before .before .before .before .before .before .before .pre .0 .2)) (c .before .before .before .before .before .before .loop-test .taken) (c .before .before .before .before .from-u16 .ensures) (c .before .before .before .other-end .ensures)), λ on. omega (arith, next-room (c .before .before .before .before .before .before .before .before .pre .0 .1) (c .before .before .before .before .before .before .before .loop .inv (c .before .before .before .before .before .before .before .before .pre .0 .0) (c .before .before .before .before .before .before .before .before .pre .0 .1) (c .before .before .before .before .before .before .before .before .pre .0 .2)) (c .before .before .before .before .before .before .loop-test .taken) (c .before .before .before .before .from-u16 .ensures) (c .before .before .before .other-end .ensures) on))
+visit-requires c κs =
+    let at-other-end = c .before .before .before in let at-from-u16 = at-other-end .before in let at-loop-test = at-from-u16 .before .before in let turn = at-loop-test .before in
+    let start = turn .before in
+    (omega (arith, start .pre .0 .1 .few, next-below (start .pre .0 .1) (turn .loop .inv (start .pre .0 .0) (start .pre .0 .1) (start .pre .0 .2)) (at-loop-test .loop-test .taken) (at-from-u16 .from-u16 .ensures) (at-other-end .other-end .ensures)), λ on. omega (arith, next-room (start .pre .0 .1) (turn .loop .inv (start .pre .0 .0) (start .pre .0 .1) (start .pre .0 .2)) (at-loop-test .loop-test .taken) (at-from-u16 .from-u16 .ensures) (at-other-end .other-end .ensures) on))
 
 add-turn : tie.Need-add-turn Inv-loop μ-loop
-add-turn c = omega (arith, few-reached (c .before .before .before .before .before .before .before .before .before .pre .0 .1) (c .before .before .before .before .before .before .before .before .loop .inv (c .before .before .before .before .before .before .before .before .before .pre .0 .0) (c .before .before .before .before .before .before .before .before .before .pre .0 .1) (c .before .before .before .before .before .before .before .before .before .pre .0 .2)), c .before .before .before .before .before .before .before .loop-test .taken)
+add-turn c =
+    let start = c .before .before .before .before .before .before .before .before .before in
+    omega (arith, few-reached (start .pre .0 .1) (c .before .before .before .before .before .before .before .before .loop .inv (start .pre .0 .0) (start .pre .0 .1) (start .pre .0 .2)), c .before .before .before .before .before .before .before .loop-test .taken)
 
 loop-less : tie.Need-loop-less Inv-loop μ-loop
-loop-less c = omega (arith, few-reached (c .before .before .before .before .before .before .before .before .before .pre .0 .1) (c .before .before .before .before .before .before .before .before .loop .inv (c .before .before .before .before .before .before .before .before .before .pre .0 .0) (c .before .before .before .before .before .before .before .before .before .pre .0 .1) (c .before .before .before .before .before .before .before .before .before .pre .0 .2)), c .before .before .before .before .before .before .before .loop-test .taken)
+loop-less c =
+    let start = c .before .before .before .before .before .before .before .before .before in
+    omega (arith, few-reached (start .pre .0 .1) (c .before .before .before .before .before .before .before .before .loop .inv (start .pre .0 .0) (start .pre .0 .1) (start .pre .0 .2)), c .before .before .before .before .before .before .before .loop-test .taken)
 
 loop-again : tie.Need-loop-again Inv-loop μ-loop
 loop-again c = λ far v here. reach-turn v (c .before .before .before .before .before .before .before .before .loop .inv far v here) (c .before .before .before .before .before .before .before .loop-test .taken) (c .before .before .before .before .before .from-u16 .ensures) (c .before .before .before .before .other-end .ensures) (c .visit .ensures .0) (c .visit .ensures .1) (c .visit .ensures .2)
@@ -77,7 +88,7 @@ reach-spec =
     mul-loop
     mul-from-u16
     element-copy-out-from-u16
-    from-u16-requires
+    (λ c κs. tt)
     other-end-requires
     mul-fresh
     element-copy-out-fresh

@@ -11,7 +11,7 @@ abbrev μ-loop : tie.MeasureT-loop
 μ-loop degree ids even₀ count₀ end₀ id₀ even count end id = ids - id
 
 loop-holds : tie.Need-loop-holds Inv-loop μ-loop
-loop-holds c = tally-begins (c .args .degree .now) (c .args .ids)
+loop-holds c = tally-begins _ _
 
 mul-d : tie.Need-mul-d Inv-loop μ-loop
 mul-d c = omega (arith, c .before .before .pre, c .before .loop .inv .upto)
@@ -19,14 +19,8 @@ mul-d c = omega (arith, c .before .before .pre, c .before .loop .inv .upto)
 element-copy-out-d : tie.Need-element-copy-out-d Inv-loop μ-loop
 element-copy-out-d c = omega (arith, c .before .before .pre, c .loop-test .taken)
 
-choose-requires : tie.Need-choose-requires Inv-loop μ-loop
-choose-requires c κs = tt
-
 add-count : tie.Need-add-count Inv-loop μ-loop
 add-count c = omega (arith, tally-fits (c .before .before .before .loop .inv) (c .before .before .before .before .pre) (c .choose .ensures))
-
-choose-requires-2 : tie.Need-choose-requires-2 Inv-loop μ-loop
-choose-requires-2 c κs = tt
 
 add-id : tie.Need-add-id Inv-loop μ-loop
 add-id c = omega (arith, c .before .before .before .before .before .pre, c .before .before .before .before .loop .inv .upto)
@@ -49,9 +43,9 @@ tally-spec =
     loop-holds
     mul-d
     element-copy-out-d
-    choose-requires
+    (λ c κs. tt)
     add-count
-    choose-requires-2
+    (λ c κs. tt)
     add-id
     loop-less
     loop-again

@@ -1,7 +1,6 @@
 use borrow.Author.Needs.{needs}
 use native.Mathlib.Omega.{arith}
-use lib.ListN.{length}
-use Prim.Native.Nat.{_*_, _/_, _-_, _≤_}
+use Prim.Native.Nat.{_*_, _-_, _≤_}
 use Rattle.rings.specs.Vertices.{Flagged, flags-begin, flags-end}
 use Rattle.rings.proofs.vertices.flag_skin.Statement.{statement}
 use Rattle.rings.proofs.vertices.flag_skin.Tie as tie
@@ -12,12 +11,6 @@ Inv-loop rows neighbours marks ids flags₀ corners end place₀ flags place = (
 
 abbrev μ-loop : tie.MeasureT-loop
 μ-loop rows neighbours marks ids flags₀ corners end place₀ flags place = 4 * rowsIn rows - place
-
-corner-table-requires : tie.Need-corner-table-requires Inv-loop μ-loop
-corner-table-requires c κs = search needs
-
-row-count-requires : tie.Need-row-count-requires Inv-loop μ-loop
-row-count-requires c κs = search needs
 
 mul-end : tie.Need-mul-end Inv-loop μ-loop
 mul-end c = omega (arith, c .before .before .before .before .before .pre .0 .ground .few, c .row-count .ensures)
@@ -46,8 +39,8 @@ flag-skin-spec =
     (tie.spec
     Inv-loop
     μ-loop
-    corner-table-requires
-    row-count-requires
+    (λ c κs. tt)
+    (λ c κs. tt)
     mul-end
     loop-holds
     flag-place-requires

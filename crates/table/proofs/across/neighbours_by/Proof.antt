@@ -17,9 +17,6 @@ Inv-loop rows corners head next work₀ end place₀ work place = Listed (tableI
 abbrev μ-loop : tie.MeasureT-loop
 μ-loop rows corners head next work₀ end place₀ work place = 4 * rowsIn rows - place
 
-row-count-requires : tie.Need-row-count-requires Inv-loop μ-loop
-row-count-requires c κs = search needs
-
 mul-end : tie.Need-mul-end Inv-loop μ-loop
 mul-end c = omega (arith, c .row-count .ensures, c .before .before .before .pre .0 .few)
 
@@ -27,16 +24,21 @@ loop-holds : tie.Need-loop-holds Inv-loop μ-loop
 loop-holds c = list-begins _ _
 
 like-places-requires : tie.Need-like-places-requires Inv-loop μ-loop
-like-places-requires c κs = (triangles, c .before .before .before .before .before .pre .0 .few, omega (arith, c .before .before .row-count .ensures, c .loop-test .taken), c .before .before .before .before .before .pre .1, c .before .before .before .before .before .pre .3)
+like-places-requires c κs =
+    let start = c .before .before .before .before .before in (triangles, start .pre .0 .few, omega (arith, c .before .before .row-count .ensures, c .loop-test .taken), start .pre .1, start .pre .3)
 
 same-length : tie.Need-same-length Inv-loop μ-loop
 same-length c = c .before .before .before .before .loop .inv .kept
 
 returns : tie.Need-returns Inv-loop μ-loop
-returns c = (list-refuses _ refl (c .before .before .before .before .before .before .before .before .pre .0 .rise) (c .before .before .before .before .loop .inv) (omega (arith, c .before .before .before .before .before .row-count .ensures, c .before .before .before .loop-test .taken)) (c .before .before .like-places .ensures .0) (c .if1 .taken), record { kept = c .before .before .before .before .loop .inv .kept; list = λ e. absurd (at-nowhere e) })
+returns c =
+    let turn = c .before .before .before .before in
+    (list-refuses _ refl (turn .before .before .before .before .pre .0 .rise) (turn .loop .inv) (omega (arith, turn .before .row-count .ensures, c .before .before .before .loop-test .taken)) (c .before .before .like-places .ensures .0) (c .if1 .taken), record { kept = turn .loop .inv .kept; list = λ e. absurd (at-nowhere e) })
 
 put-requires : tie.Need-put-requires Inv-loop μ-loop
-put-requires c κs = (rw (c .before .before .before .before .before .before .loop .inv .kept) (omega (arith, c .before .before .before .before .before .before .before .before .before .before .pre .2, c .before .before .before .before .before .loop-test .taken)), omega (arith, c .before .before .before .before .before .before .before .before .before .before .pre .0 .few, c .before .before .before .before .like-places .ensures .1, highest-small (4 * rowsIn (c .before .before .before .before .before .before .before .before .before .before .args .rows .now)) (another (tableIn (c .before .before .before .before .before .before .before .before .before .before .args .rows .now)) 0 4 (c .before .before .before .before .before .before .loop .place))))
+put-requires c κs =
+    let turn = c .before .before .before .before .before .before in let start = turn .before .before .before .before in
+    (rw (turn .loop .inv .kept) (omega (arith, start .pre .2, c .before .before .before .before .before .loop-test .taken)), omega (arith, start .pre .0 .few, c .before .before .before .before .like-places .ensures .1, highest-small (4 * rowsIn (start .args .rows .now)) (another (tableIn (start .args .rows .now)) 0 4 (turn .loop .place))))
 
 add-place : tie.Need-add-place Inv-loop μ-loop
 add-place c = search needs
@@ -45,7 +47,9 @@ loop-less : tie.Need-loop-less Inv-loop μ-loop
 loop-less c = search needs
 
 loop-again : tie.Need-loop-again Inv-loop μ-loop
-loop-again c = rw (c .before .before .put .ensures) (list-turn _ refl (c .before .before .before .before .before .before .before .before .before .before .before .before .before .pre .0 .rise) (c .before .before .before .before .before .before .before .before .before .loop .inv) (omega (arith, c .before .before .before .before .before .before .before .before .before .before .row-count .ensures, c .before .before .before .before .before .before .before .before .loop-test .taken)) (c .before .before .before .before .before .before .before .like-places .ensures .0) (c .before .before .before .before .before .before .before .before .before .before .before .before .before .pre .2) (c .before .before .before .before .before .before .before .like-places .ensures .1) (c .before .before .before .before .before .if1 .left))
+loop-again c =
+    let at-like-places = c .before .before .before .before .before .before .before in let start = at-like-places .before .before .before .before .before .before in
+    rw (c .before .before .put .ensures) (list-turn _ refl (start .pre .0 .rise) (at-like-places .before .before .loop .inv) (omega (arith, at-like-places .before .before .before .row-count .ensures, at-like-places .before .loop-test .taken)) (at-like-places .like-places .ensures .0) (start .pre .2) (at-like-places .like-places .ensures .1) (c .before .before .before .before .before .if1 .left))
 
 same-length-2 : tie.Need-same-length-2 Inv-loop μ-loop
 same-length-2 c = c .before .loop .inv .kept
@@ -59,7 +63,7 @@ neighbours-by-spec =
     (tie.spec
     Inv-loop
     μ-loop
-    row-count-requires
+    (λ c κs. tt)
     mul-end
     loop-holds
     like-places-requires

@@ -1,7 +1,6 @@
 use Rattle.table.specs.Places.{places-fit}
 use Rattle.table.specs.Faces.{key-below}
 use Rattle.table.specs.Walk.{Walked, walk-begins, walk-turn, walk-ends, walked-small, goes-on}
-use borrow.Author.Needs.{needs}
 use native.Mathlib.Omega.{arith}
 use Prim.Native.Nat.{_*_, _-_}
 use Rattle.rules.specs.Below.{bit}
@@ -16,17 +15,11 @@ Inv-loop rows corners base m head next place end face count₀ other₀ q₀ cou
 abbrev μ-loop : tie.MeasureT-loop
 μ-loop rows corners base m head next place end face count₀ other₀ q₀ count other q = m * rowsIn rows - q
 
-row-count-requires : tie.Need-row-count-requires Inv-loop μ-loop
-row-count-requires c κs = search needs
-
 mul-end : tie.Need-mul-end Inv-loop μ-loop
-mul-end c = rw (c .row-count .ensures) (omega (arith, places-fit (c .before .before .pre .0) (c .before .before .pre .1)))
+mul-end c = let start = c .before .before in rw (c .row-count .ensures) (omega (arith, places-fit (start .pre .0) (start .pre .1)))
 
 face-at-requires : tie.Need-face-at-requires Inv-loop μ-loop
-face-at-requires c κs = (c .before .before .pre .0, c .before .before .pre .2, c .before .before .pre .4)
-
-key-of-requires : tie.Need-key-of-requires Inv-loop μ-loop
-key-of-requires c κs = tt
+face-at-requires c κs = let start = c .before .before in (start .pre .0, start .pre .2, start .pre .4)
 
 first-place-requires : tie.Need-first-place-requires Inv-loop μ-loop
 first-place-requires c κs = rw (c .key-of .ensures) (key-below _)
@@ -35,26 +28,25 @@ loop-holds : tie.Need-loop-holds Inv-loop μ-loop
 loop-holds c = rw (c .first-place .ensures, c .before .key-of .ensures, c .before .before .face-at .ensures) (walk-begins _ _ _ _ (c .before .before .before .before .before .pre .3))
 
 face-at-requires-2 : tie.Need-face-at-requires-2 Inv-loop μ-loop
-face-at-requires-2 c κs = (c .before .before .before .before .before .before .before .pre .0, rw (c .before .before .before .before .before .row-count .ensures) at (c .loop-test .taken), c .before .before .before .before .before .before .before .pre .4)
-
-same-ids-requires : tie.Need-same-ids-requires Inv-loop μ-loop
-same-ids-requires c κs = tt
-
-choose-requires : tie.Need-choose-requires Inv-loop μ-loop
-choose-requires c κs = tt
+face-at-requires-2 c κs =
+    let start = c .before .before .before .before .before .before .before in
+    (start .pre .0, rw (c .before .before .before .before .before .row-count .ensures) at (c .loop-test .taken), start .pre .4)
 
 add-count : tie.Need-add-count Inv-loop μ-loop
 unfolding bit
-add-count c = omega (arith, c .choose .ensures, bit-small (c .before .same-ids .result), walked-small _ _ _ _ _ _ _ (c .before .before .before .before .loop .inv), places-fit (c .before .before .before .before .before .before .before .before .before .before .pre .0) (c .before .before .before .before .before .before .before .before .before .before .pre .1))
-
-choose-requires-2 : tie.Need-choose-requires-2 Inv-loop μ-loop
-choose-requires-2 c κs = tt
+add-count c =
+    let start = c .before .before .before .before .before .before .before .before .before .before in
+    omega (arith, c .choose .ensures, bit-small (c .before .same-ids .result), walked-small _ _ _ _ _ _ _ (c .before .before .before .before .loop .inv), places-fit (start .pre .0) (start .pre .1))
 
 next-place-requires : tie.Need-next-place-requires Inv-loop μ-loop
-next-place-requires c κs = omega (arith, rw (c .before .before .before .before .before .before .before .before .before .row-count .ensures) at (c .before .before .before .before .loop-test .taken), places-fit (c .before .before .before .before .before .before .before .before .before .before .before .pre .0) (c .before .before .before .before .before .before .before .before .before .before .before .pre .1))
+next-place-requires c κs =
+    let start = c .before .before .before .before .before .before .before .before .before .before .before in
+    omega (arith, rw (c .before .before .before .before .before .before .before .before .before .row-count .ensures) at (c .before .before .before .before .loop-test .taken), places-fit (start .pre .0) (start .pre .1))
 
 loop-less : tie.Need-loop-less Inv-loop μ-loop
-loop-less c = omega (arith, rw (c .before .before .before .before .before .before .before .before .before .before .row-count .ensures) at (c .before .before .before .before .before .loop-test .taken), c .next-place .ensures, goes-on _ _ _ _ (c .before .before .before .before .before .before .before .before .before .before .before .before .pre .3) _ (rw (c .before .before .before .before .before .before .before .before .before .before .row-count .ensures) at (c .before .before .before .before .before .loop-test .taken)) (c .before .before .before .before .before .before .loop .inv .standing))
+loop-less c =
+    let at-loop-test = c .before .before .before .before .before in let at-row-count = at-loop-test .before .before .before .before .before in
+    omega (arith, rw (at-row-count .row-count .ensures) at (at-loop-test .loop-test .taken), c .next-place .ensures, goes-on _ _ _ _ (at-row-count .before .before .pre .3) _ (rw (at-row-count .row-count .ensures) at (at-loop-test .loop-test .taken)) (at-loop-test .before .loop .inv .standing))
 
 loop-again : tie.Need-loop-again Inv-loop μ-loop
 loop-again c = walk-turn _ _ _ _ (c .before .before .before .before .before .before .before .before .before .before .before .before .pre .3) (rw (c .before .before .before .before .before .before .before .before .before .before .row-count .ensures) at (c .before .before .before .before .before .loop-test .taken)) (c .before .before .before .before .before .before .loop .inv) (c .before .before .before .before .before .before .before .before .before .face-at .ensures) (c .before .before .before .before .face-at2 .ensures) (c .before .before .before .same-ids .ensures) (c .before .before .choose .ensures) (c .before .choose2 .ensures) (c .next-place .ensures)
@@ -68,17 +60,17 @@ like-places-spec =
     (tie.spec
     Inv-loop
     μ-loop
-    row-count-requires
+    (λ c κs. tt)
     mul-end
     face-at-requires
-    key-of-requires
+    (λ c κs. tt)
     first-place-requires
     loop-holds
     face-at-requires-2
-    same-ids-requires
-    choose-requires
+    (λ c κs. tt)
+    (λ c κs. tt)
     add-count
-    choose-requires-2
+    (λ c κs. tt)
     next-place-requires
     loop-less
     loop-again

@@ -16,12 +16,9 @@ add-from-u8 c = search needs
 element-copy-out-from-u8 : tie.Need-element-copy-out-from-u8
 element-copy-out-from-u8 c = search needs
 
-from-u8-requires : tie.Need-from-u8-requires
-from-u8-requires c κs = search needs
-
 returns : tie.Need-returns
 unfolding cornerOf
-returns c = c .from-u8 .ensures ∙ ap (λ (xs : List ℕ). getD xs (3 * c .before .before .args .face + c .before .before .args .k) 0) (c .before .before .pre .2)
+returns c = let start = c .before .before in c .from-u8 .ensures ∙ ap (λ (xs : List ℕ). getD xs (3 * start .args .face + start .args .k) 0) (start .pre .2)
 
 pub corner-of-spec : {M : Type 1} → statement M
 corner-of-spec =
@@ -30,5 +27,5 @@ corner-of-spec =
     mul-from-u8
     add-from-u8
     element-copy-out-from-u8
-    from-u8-requires
+    (λ c κs. tt)
     returns)

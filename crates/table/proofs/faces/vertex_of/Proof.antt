@@ -8,7 +8,7 @@ id-at-requires : tie.Need-id-at-requires
 id-at-requires c κs = search needs
 
 returns : tie.Need-returns
-returns c = vertex-is (tableIn (c .before .before .args .rows .now)) (c .before .before .args .row) (c .before .before .args .corner) (c .before .before .pre .1) (c .id-at .ensures)
+returns c = vertex-is (tableIn _) _ _ (c .before .before .pre .1) (c .id-at .ensures)
 
 pub vertex-of-spec : {M : Type 1} → statement M
 vertex-of-spec = tie.close (tie.spec id-at-requires returns)

@@ -6,16 +6,14 @@ use Rattle.table.proofs.flood.spread.Statement.{statement}
 use Rattle.table.proofs.flood.spread.Tie as tie
 
 mul-from-u16 : tie.Need-mul-from-u16
-mul-from-u16 c = omega (arith, c .before .before .pre .2, few-reached (c .before .before .pre .0 .1) _ _ _ _ (c .before .before .pre .3))
+mul-from-u16 c = let start = c .before .before in omega (arith, start .pre .2, few-reached (start .pre .0 .1) _ _ _ _ (start .pre .3))
 
 element-copy-out-from-u16 : tie.Need-element-copy-out-from-u16
-element-copy-out-from-u16 c = omega (arith, c .before .before .pre .2, few-reached (c .before .before .pre .0 .1) _ _ _ _ (c .before .before .pre .3))
-
-from-u16-requires : tie.Need-from-u16-requires
-from-u16-requires c κs = tt
+element-copy-out-from-u16 c = let start = c .before .before in omega (arith, start .pre .2, few-reached (start .pre .0 .1) _ _ _ _ (start .pre .3))
 
 leave-by-requires : tie.Need-leave-by-requires
-leave-by-requires c κs = (c .before .before .before .before .before .before .pre .0, lit< tt, spread-begins (c .before .before .before .before .before .before .pre .3) (c .before .before .before .before .before .before .pre .1) (c .before .before .before .before .before .before .pre .2) (c .before .before .from-u16 .ensures))
+leave-by-requires c κs =
+    let start = c .before .before .before .before .before .before in (start .pre .0, lit< tt, spread-begins (start .pre .3) (start .pre .1) (start .pre .2) (c .before .before .from-u16 .ensures))
 
 leave-by-requires-2 : tie.Need-leave-by-requires-2
 leave-by-requires-2 c κs = search needs
@@ -35,7 +33,7 @@ spread-spec =
     (tie.spec
     mul-from-u16
     element-copy-out-from-u16
-    from-u16-requires
+    (λ c κs. tt)
     leave-by-requires
     leave-by-requires-2
     leave-by-requires-3

@@ -20,36 +20,36 @@ Inv-loop rows neighbours corners base m head next stamp₀ queue₀ end place₀
 abbrev μ-loop : tie.MeasureT-loop
 μ-loop rows neighbours corners base m head next stamp₀ queue₀ end place₀ stamp queue place = m * rowsIn rows - place
 
-row-count-requires : tie.Need-row-count-requires Inv-loop μ-loop
-row-count-requires c κs = search needs
-
 mul-end : tie.Need-mul-end Inv-loop μ-loop
-mul-end c = rw (c .row-count .ensures) (omega (arith, places-fit (c .before .before .before .pre .1 .0) (c .before .before .before .pre .0 .1 .few)))
+mul-end c = let start = c .before .before .before in rw (c .row-count .ensures) (omega (arith, places-fit (start .pre .1 .0) (start .pre .0 .1 .few)))
 
 loop-holds : tie.Need-loop-holds Inv-loop μ-loop
 unfolding lowest
 loop-holds c = (search needs, refl, c .before .before .before .pre .3)
 
 face-joined-requires : tie.Need-face-joined-requires Inv-loop μ-loop
-face-joined-requires c κs = (c .before .before .before .before .before .before .before .pre .0, c .before .before .before .before .before .before .before .pre .1, c .before .before .before .before .before .before .before .pre .2, c .before .before .before .loop .inv .2, rw (c .before .before .before .before .row-count .ensures) at (c .before .before .loop-test .taken), λ q l. not-false _ (lowest-none (c .before .before .before .loop .place) (unjoinedAt (tableIn (c .before .before .before .before .before .before .before .args .rows .now)) (c .before .before .before .before .before .before .before .args .base) (c .before .before .before .before .before .before .before .args .m)) (c .before .before .before .loop .inv .1) q l), c .before .before .before .before .before .before .before .pre .4)
-
-row-of-requires : tie.Need-row-of-requires Inv-loop μ-loop
-row-of-requires c κs = tt
+face-joined-requires c κs =
+    let turn = c .before .before .before in let start = turn .before .before .before .before in
+    (start .pre .0, start .pre .1, start .pre .2, turn .loop .inv .2, rw (turn .before .row-count .ensures) at (c .before .before .loop-test .taken), λ q l. not-false _ (lowest-none _ (unjoinedAt (tableIn _) _ _) (turn .loop .inv .1) q l), start .pre .4)
 
 returns : tie.Need-returns Inv-loop μ-loop
-returns c = ap some (c .row-of .ensures ∙ four-or-six (c .before .before .before .before .before .before .before .before .before .before .pre .1 .0) (λ n. c .before .before .before .before .before .before .loop .place / n)) ∙ unjoined-row (c .before .before .before .before .before .before .before .before .before .before .args .rows .now) (c .before .before .before .before .before .before .before .before .before .before .pre .1) (rising-rows (c .before .before .before .before .before .before .before .before .before .before .pre .0 .1)) (c .before .before .before .before .before .before .loop .place) (search-stops _ _ (unjoinedAt (tableIn (c .before .before .before .before .before .before .before .before .before .before .args .rows .now)) (c .before .before .before .before .before .before .before .before .before .before .args .base) (c .before .before .before .before .before .before .before .before .before .before .args .m)) (c .before .before .before .before .before .before .loop .inv .1) (rw (c .before .before .before .before .before .before .before .row-count .ensures) at (c .before .before .before .before .before .loop-test .taken)) (rw (← c .before .before .face-joined .ensures .0) (c .before .if1 .taken)))
+returns c =
+    let turn = c .before .before .before .before .before .before in let start = turn .before .before .before .before in
+    ap some (c .row-of .ensures ∙ four-or-six (start .pre .1 .0) (λ n. turn .loop .place / n)) ∙ unjoined-row _ (start .pre .1) (rising-rows (start .pre .0 .1)) _ (search-stops _ _ (unjoinedAt (tableIn _) _ _) (turn .loop .inv .1) (rw (turn .before .row-count .ensures) at (c .before .before .before .before .before .loop-test .taken)) (rw (← c .before .before .face-joined .ensures .0) (c .before .if1 .taken)))
 
 add-place : tie.Need-add-place Inv-loop μ-loop
-add-place c = omega (arith, places-fit (c .before .before .before .before .before .before .before .before .before .pre .1 .0) (c .before .before .before .before .before .before .before .before .before .pre .0 .1 .few))
+add-place c = let start = c .before .before .before .before .before .before .before .before .before in omega (arith, places-fit (start .pre .1 .0) (start .pre .0 .1 .few))
 
 loop-less : tie.Need-loop-less Inv-loop μ-loop
 loop-less c = omega (arith, rw (c .before .before .before .before .before .before .row-count .ensures) at (c .before .before .before .before .loop-test .taken))
 
 loop-again : tie.Need-loop-again Inv-loop μ-loop
-loop-again c = (omega (arith, rw (c .before .before .before .before .before .before .row-count .ensures) at (c .before .before .before .before .loop-test .taken)), searched-more _ (unjoinedAt (tableIn (c .before .before .before .before .before .before .before .before .before .args .rows .now)) (c .before .before .before .before .before .before .before .before .before .args .base) (c .before .before .before .before .before .before .before .before .before .args .m)) (c .before .before .before .before .before .loop .inv .1) (rw (← c .before .face-joined .ensures .0) (c .if1 .left)), c .before .face-joined .ensures .1)
+loop-again c = (omega (arith, rw (c .before .before .before .before .before .before .row-count .ensures) at (c .before .before .before .before .loop-test .taken)), searched-more _ (unjoinedAt (tableIn _) _ _) (c .before .before .before .before .before .loop .inv .1) (rw (← c .before .face-joined .ensures .0) (c .if1 .left)), c .before .face-joined .ensures .1)
 
 returns-2 : tie.Need-returns-2 Inv-loop μ-loop
-returns-2 c = unjoined-none (c .before .before .before .before .before .args .rows .now) (c .before .before .before .before .before .pre .1) (rising-rows (c .before .before .before .before .before .pre .0 .1)) (search-ends _ _ (unjoinedAt (tableIn (c .before .before .before .before .before .args .rows .now)) (c .before .before .before .before .before .args .base) (c .before .before .before .before .before .args .m)) (c .before .loop .inv .1) (rw (c .before .before .row-count .ensures) at (c .loop-test .left)))
+returns-2 c =
+    let start = c .before .before .before .before .before in
+    unjoined-none _ (start .pre .1) (rising-rows (start .pre .0 .1)) (search-ends _ _ (unjoinedAt (tableIn _) _ _) (c .before .loop .inv .1) (rw (c .before .before .row-count .ensures) at (c .loop-test .left)))
 
 pub broken-by-spec : {M : Type 1} → statement M
 broken-by-spec =
@@ -57,11 +57,11 @@ broken-by-spec =
     (tie.spec
     Inv-loop
     μ-loop
-    row-count-requires
+    (λ c κs. tt)
     mul-end
     loop-holds
     face-joined-requires
-    row-of-requires
+    (λ c κs. tt)
     returns
     add-place
     loop-less

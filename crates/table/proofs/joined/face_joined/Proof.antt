@@ -15,28 +15,31 @@ first-like-requires : tie.Need-first-like-requires
 first-like-requires c κs = search needs
 
 returns : tie.Need-returns
-returns c = (joined-before (c .before .before .before .before .args .rows .now) (c .before .before .before .before .pre .1) (c .before .before .before .before .args .place) (c .before .before .before .before .pre .5) (c .before .first-like .ensures) (not-true _ (c .if1 .taken)), record { stamps = c .before .before .before .before .pre .3 .stamps; places = c .before .before .before .before .pre .3 .places; low = λ y l. omega (arith, c .before .before .before .before .pre .3 .low y l) })
+returns c =
+    let start = c .before .before .before .before in
+    (joined-before _ (start .pre .1) _ (start .pre .5) (c .before .first-like .ensures) (not-true _ (c .if1 .taken)), record { stamps = start .pre .3 .stamps; places = start .pre .3 .places; low = λ y l. omega (arith, start .pre .3 .low y l) })
 
 face-at-requires : tie.Need-face-at-requires
 face-at-requires c κs = search needs
 
-row-of-requires : tie.Need-row-of-requires
-row-of-requires c κs = tt
-
 add-flood : tie.Need-add-flood
-add-flood c = omega (arith, c .before .before .before .before .before .before .pre .4, places-fit (c .before .before .before .before .before .before .pre .1 .0) (c .before .before .before .before .before .before .pre .0 .1 .few))
+add-flood c = let start = c .before .before .before .before .before .before in omega (arith, start .pre .4, places-fit (start .pre .1 .0) (start .pre .0 .1 .few))
 
 cast-flood : tie.Need-cast-flood
-cast-flood c = omega (arith, c .before .before .before .before .before .before .pre .4, places-fit (c .before .before .before .before .before .before .pre .1 .0) (c .before .before .before .before .before .before .pre .0 .1 .few))
+cast-flood c = let start = c .before .before .before .before .before .before in omega (arith, start .pre .4, places-fit (start .pre .1 .0) (start .pre .0 .1 .few))
 
 flood-requires : tie.Need-flood-requires
-flood-requires c κs = (c .before .before .before .before .before .before .before .before .pre .0, rw (c .before .before .row-of .ensures ∙ four-or-six (c .before .before .before .before .before .before .before .before .pre .1 .0) (λ n. c .before .before .before .before .before .before .before .before .args .place / n)) (row-below (kind-small (c .before .before .before .before .before .before .before .before .pre .1 .0) .0) _ _ (c .before .before .before .before .before .before .before .before .pre .4)), rw (c .before .before .row-of .ensures ∙ four-or-six (c .before .before .before .before .before .before .before .before .pre .1 .0) (λ n. c .before .before .before .before .before .before .before .before .args .place / n)) (own-both (c .before .before .before .before .before .before .before .before .args .rows .now) (c .before .before .before .before .before .before .before .before .pre .1) (c .before .before .before .before .before .before .before .before .args .place) (c .before .before .before .face-at .ensures)), c .before .before .before .before .before .before .before .before .pre .3 .stamps, c .before .before .before .before .before .before .before .before .pre .3 .places, λ y l. omega (arith, c .before .before .before .before .before .before .before .before .pre .3 .low y l))
+flood-requires c κs =
+    let at-row-of = c .before .before in let start = at-row-of .before .before .before .before .before .before in
+    (start .pre .0, rw (at-row-of .row-of .ensures ∙ four-or-six (start .pre .1 .0) (λ n. start .args .place / n)) (row-below (kind-small (start .pre .1 .0) .0) _ _ (start .pre .4)), rw (at-row-of .row-of .ensures ∙ four-or-six (start .pre .1 .0) (λ n. start .args .place / n)) (own-both _ (start .pre .1) _ (at-row-of .before .face-at .ensures)), start .pre .3 .stamps, start .pre .3 .places, λ y l. omega (arith, start .pre .3 .low y l))
 
 like-places-requires : tie.Need-like-places-requires
 like-places-requires c κs = search needs
 
 returns-2 : tie.Need-returns-2
-returns-2 c = (joined-found (c .before .before .before .before .before .before .before .before .before .before .before .args .rows .now) (c .before .before .before .before .before .before .before .before .before .before .before .pre .1) (rising-rows (c .before .before .before .before .before .before .before .before .before .before .before .pre .0 .1)) (c .before .before .before .before .before .before .before .before .before .before .before .args .place) (c .before .before .before .before .before .before .before .before .before .before .before .pre .4) (c .before .before .before .before .before .before .face-at .ensures) _ (c .before .before .flood .ensures .0) (c .before .like-places .ensures .0), record { stamps = c .before .before .flood .ensures .1; places = c .before .before .flood .ensures .2; low = c .before .before .flood .ensures .3 })
+returns-2 c =
+    let at-flood = c .before .before in let start = at-flood .before .before .before .before .before .before .before .before .before in
+    (joined-found _ (start .pre .1) (rising-rows (start .pre .0 .1)) _ (start .pre .4) (at-flood .before .before .before .before .face-at .ensures) _ (at-flood .flood .ensures .0) (c .before .like-places .ensures .0), record { stamps = at-flood .flood .ensures .1; places = at-flood .flood .ensures .2; low = at-flood .flood .ensures .3 })
 
 pub face-joined-spec : {M : Type 1} → statement M
 face-joined-spec =
@@ -45,7 +48,7 @@ face-joined-spec =
     first-like-requires
     returns
     face-at-requires
-    row-of-requires
+    (λ c κs. tt)
     add-flood
     cast-flood
     flood-requires

@@ -15,9 +15,6 @@ Inv-loop rows ids n row₀ row = (row ≤ n) × (lowest row (badRow (tableIn row
 abbrev μ-loop : tie.MeasureT-loop
 μ-loop rows ids n row₀ row = n - row
 
-row-count-requires : tie.Need-row-count-requires Inv-loop μ-loop
-row-count-requires c κs = search needs
-
 loop-holds : tie.Need-loop-holds Inv-loop μ-loop
 unfolding lowest
 loop-holds c = (search needs, refl)
@@ -26,7 +23,7 @@ is-row-requires : tie.Need-is-row-requires Inv-loop μ-loop
 is-row-requires c κs = search needs
 
 returns : tie.Need-returns Inv-loop μ-loop
-returns c = sym (search-stops _ _ (badRow (tableIn (c .before .before .before .before .before .before .args .rows .now)) (c .before .before .before .before .before .before .args .ids)) (c .before .before .before .loop .inv .1) (search needs) (rw (← c .before .is-row .ensures) (c .if1 .taken)))
+returns c = sym (search-stops _ _ (badRow (tableIn _) _) (c .before .before .before .loop .inv .1) (search needs) (rw (← c .before .is-row .ensures) (c .if1 .taken)))
 
 add-row : tie.Need-add-row Inv-loop μ-loop
 add-row c = search needs
@@ -35,10 +32,10 @@ loop-less : tie.Need-loop-less Inv-loop μ-loop
 loop-less c = search needs
 
 loop-again : tie.Need-loop-again Inv-loop μ-loop
-loop-again c = (search needs, searched-more _ (badRow (tableIn (c .before .before .before .before .before .before .args .rows .now)) (c .before .before .before .before .before .before .args .ids)) (c .before .before .before .loop .inv .1) (rw (← c .before .is-row .ensures) (c .if1 .left)))
+loop-again c = (search needs, searched-more _ (badRow (tableIn _) _) (c .before .before .before .loop .inv .1) (rw (← c .before .is-row .ensures) (c .if1 .left)))
 
 returns-2 : tie.Need-returns-2 Inv-loop μ-loop
-returns-2 c = sym (search-ends _ _ (badRow (tableIn (c .before .before .before .before .args .rows .now)) (c .before .before .before .before .args .ids)) (c .before .loop .inv .1) (search needs))
+returns-2 c = sym (search-ends _ _ (badRow (tableIn _) _) (c .before .loop .inv .1) (search needs))
 
 pub bad-row-spec : {M : Type 1} → statement M
 bad-row-spec =
@@ -46,7 +43,7 @@ bad-row-spec =
     (tie.spec
     Inv-loop
     μ-loop
-    row-count-requires
+    (λ c κs. tt)
     loop-holds
     is-row-requires
     returns

@@ -16,9 +16,6 @@ id-at-requires-3 c κs = search needs
 id-at-requires-4 : tie.Need-id-at-requires-4
 id-at-requires-4 c κs = search needs
 
-four-rise-requires : tie.Need-four-rise-requires
-four-rise-requires c κs = search needs
-
 returns : tie.Need-returns
 unfolding rising idsBelow all
 returns c = rw (← c .before .id-at4 .ensures, ← c .before .before .id-at3 .ensures, ← c .before .before .before .id-at2 .ensures, ← c .before .before .before .before .id-at .ensures) (c .four-rise .ensures)
@@ -31,5 +28,5 @@ is-row-spec =
     id-at-requires-2
     id-at-requires-3
     id-at-requires-4
-    four-rise-requires
+    (λ c κs. tt)
     returns)

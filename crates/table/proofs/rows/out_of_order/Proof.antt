@@ -17,9 +17,6 @@ Inv-loop rows n row₀ row = (1 ≤ row) × (lowest row (notAfter (tableIn rows)
 abbrev μ-loop : tie.MeasureT-loop
 μ-loop rows n row₀ row = n - row
 
-row-count-requires : tie.Need-row-count-requires Inv-loop μ-loop
-row-count-requires c κs = search needs
-
 loop-holds : tie.Need-loop-holds Inv-loop μ-loop
 unfolding lowest orElse found
 loop-holds c = (search needs, refl)
@@ -31,7 +28,9 @@ row-before-requires : tie.Need-row-before-requires Inv-loop μ-loop
 row-before-requires c κs = search needs
 
 returns : tie.Need-returns Inv-loop μ-loop
-returns c = sym (search-stops _ _ (notAfter (tableIn (c .before .before .before .before .before .before .args .rows .now))) (c .before .before .before .loop .inv .1) (search needs) (and-both (lt-ltb 0 (c .before .before .before .loop .row) (search needs)) (rw (← c .before .row-before .ensures) (c .if1 .taken))))
+returns c =
+    let turn = c .before .before .before in
+    sym (search-stops _ _ (notAfter (tableIn (turn .before .before .before .args .rows .now))) (turn .loop .inv .1) (search needs) (and-both (lt-ltb 0 (turn .loop .row) (search needs)) (rw (← c .before .row-before .ensures) (c .if1 .taken))))
 
 add-row : tie.Need-add-row Inv-loop μ-loop
 add-row c = search needs
@@ -40,10 +39,12 @@ loop-less : tie.Need-loop-less Inv-loop μ-loop
 loop-less c = search needs
 
 loop-again : tie.Need-loop-again Inv-loop μ-loop
-loop-again c = (search needs, searched-more _ (notAfter (tableIn (c .before .before .before .before .before .before .args .rows .now))) (c .before .before .before .loop .inv .1) (rw (← c .before .row-before .ensures, lt-ltb 0 (c .before .before .before .loop .row) (search needs)) (c .if1 .left)))
+loop-again c =
+    let turn = c .before .before .before in
+    (search needs, searched-more _ (notAfter (tableIn (turn .before .before .before .args .rows .now))) (turn .loop .inv .1) (rw (← c .before .row-before .ensures, lt-ltb 0 (turn .loop .row) (search needs)) (c .if1 .left)))
 
 returns-2 : tie.Need-returns-2 Inv-loop μ-loop
-returns-2 c = sym (search-ends _ _ (notAfter (tableIn (c .before .before .before .before .args .rows .now))) (c .before .loop .inv .1) (search needs))
+returns-2 c = sym (search-ends _ _ (notAfter (tableIn _)) (c .before .loop .inv .1) (search needs))
 
 pub out-of-order-spec : {M : Type 1} → statement M
 out-of-order-spec =
@@ -51,7 +52,7 @@ out-of-order-spec =
     (tie.spec
     Inv-loop
     μ-loop
-    row-count-requires
+    (λ c κs. tt)
     loop-holds
     sub-row-before
     row-before-requires

@@ -28,9 +28,6 @@ id-at-requires-7 c κs = search needs
 id-at-requires-8 : tie.Need-id-at-requires-8
 id-at-requires-8 c κs = search needs
 
-four-before-requires : tie.Need-four-before-requires
-four-before-requires c κs = search needs
-
 returns : tie.Need-returns
 unfolding before any all
 returns c = rw (← c .before .id-at8 .ensures, ← c .before .before .id-at7 .ensures, ← c .before .before .before .id-at6 .ensures, ← c .before .before .before .before .id-at5 .ensures, ← c .before .before .before .before .before .id-at4 .ensures, ← c .before .before .before .before .before .before .id-at3 .ensures, ← c .before .before .before .before .before .before .before .id-at2 .ensures, ← c .before .before .before .before .before .before .before .before .id-at .ensures) (c .four-before .ensures)
@@ -47,5 +44,5 @@ row-before-spec =
     id-at-requires-6
     id-at-requires-7
     id-at-requires-8
-    four-before-requires
+    (λ c κs. tt)
     returns)

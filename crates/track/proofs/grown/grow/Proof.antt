@@ -9,17 +9,10 @@ answer-copied-requires c κs = let r = c .before .before .before .before .before
 list-front-requires : tie.Need-list-front-requires
 list-front-requires c κs = let r = c .before .before .before .before .before .before .before .before .before .before .before .before .before .before .before .before .pre .1 in ((_, r .ground), final-room r (c .before .before .before .before .before .before .answer-copied .ensures .2), r .triangle-room)
 
-same-length : tie.Need-same-length
-same-length c = search needs
-
-same-length-2 : tie.Need-same-length-2
-same-length-2 c = search needs
-
-same-length-3 : tie.Need-same-length-3
-same-length-3 c = search needs
-
 returns : tie.Need-returns
-returns c = grown (c .before .before .before .before .before .before .before .before .before .before .before .before .before .before .before .before .before .before .before .pre .1) (c .before .before .before .before .before .before .before .before .before .answer-copied .ensures .0) (c .before .before .before .before .before .before .before .before .before .answer-copied .ensures .1) (c .before .before .before .before .before .before .before .before .before .answer-copied .ensures .2) (c .before .before .list-front .ensures .0) (c .before .before .list-front .ensures .1)
+returns c =
+    let at-list-front = c .before .before in let at-answer-copied = at-list-front .before .before .before .before .before .before .before in
+    grown (at-answer-copied .before .before .before .before .before .before .before .before .before .before .pre .1) (at-answer-copied .answer-copied .ensures .0) (at-answer-copied .answer-copied .ensures .1) (at-answer-copied .answer-copied .ensures .2) (at-list-front .list-front .ensures .0) (at-list-front .list-front .ensures .1)
 
 pub grow-spec : {M : Type 1} → statement M
 grow-spec =
@@ -27,7 +20,7 @@ grow-spec =
     (tie.spec
     answer-copied-requires
     list-front-requires
-    same-length
-    same-length-2
-    same-length-3
+    (λ c. search needs)
+    (λ c. search needs)
+    (λ c. search needs)
     returns)
