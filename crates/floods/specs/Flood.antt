@@ -19,6 +19,7 @@ use Rattle.rules.specs.Laws.Truth.{true-or-false, not-both, same-test, same-or-
 use Rattle.rules.specs.Laws.Count.{without, count-without, without-is, is-without, count-same, count-le-same, count-not, none-count}
 use Rattle.rules.specs.Laws.Places.{row-of, within-row, row-below, place-below}
 use Rattle.rules.specs.Laws.Joined.{Chain, chain-ends, chain-join, chain-back, chain-passes, Picked, picked-chain, chain-picked}
+use Rattle.rules.specs.Job.{mostRows}
 
 unfoldable pub stamped : ℕ → List ℕ → ℕ → Bool
 stamped k stamp y = eqb (getD stamp y 0) k
@@ -56,8 +57,8 @@ module _ (k : ℕ) (stamp : List ℕ) (y : ℕ) (room : y < length stamp) where
 module _ {ways : ℕ} (pos : 0 < ways) (n k start : ℕ) (want : ℕ → ℕ → Bool) (target : ℕ → ℕ → ℕ) (Good : ℕ → Type 0) where
   -- before turn i
   pub record Flooding (stamp queue : List ℕ) (i tail : ℕ) : Type 0 where
-    pub stamps : length stamp ≡ 2048
-    pub places : length queue ≡ 2048
+    pub stamps : length stamp ≡ mostRows
+    pub places : length queue ≡ mostRows
     pub within : i ≤ ways * tail
     pub begun : stamped k stamp start ≡ true
     -- as many are stamped as stand in the queue
@@ -89,7 +90,7 @@ module _ {ways : ℕ} (pos : 0 < ways) (n k start : ℕ) (want : ℕ → ℕ →
       at q lq y c lc e =
           rw (row-of pos q c lc, within-row pos q c lc, e) at (f .done (ways * q + c) (omega (arith, f .within, l, place-below pos tail q c lq lc)))
 
-  pub flood-begins : (stamp queue : List ℕ) → start < n → n ≤ 2048 → Good start → length stamp ≡ 2048 → length queue ≡ 2048
+  pub flood-begins : (stamp queue : List ℕ) → start < n → n ≤ mostRows → Good start → length stamp ≡ mostRows → length queue ≡ mostRows
       → ((y : ℕ) → y < n → getD stamp y 0 < k) → Flooding (set stamp start k) (set queue 0 start) 0 1
   unfolding stamped
   flood-begins stamp queue l few good ls lq fresh = record {
@@ -135,7 +136,7 @@ module _ {ways : ℕ} (pos : 0 < ways) (n k start : ℕ) (want : ℕ → ℕ →
     }
 
     -- a turn that finds y
-    flood-fresh : {x y : ℕ} → x ≡ getD queue (i / ways) 0 → y ≡ target x (i % ways) → n ≤ 2048 → y < n → stamped k stamp y ≡ false → Good y
+    flood-fresh : {x y : ℕ} → x ≡ getD queue (i / ways) 0 → y ≡ target x (i % ways) → n ≤ mostRows → y < n → stamped k stamp y ≡ false → Good y
         → Flooding (set stamp y k) (set queue tail y) (i + 1) (tail + 1)
     flood-fresh {x} {y} ex ey few ly off good = record {
       stamps = length-set stamp y k ∙ f .stamps;
@@ -165,7 +166,7 @@ module _ {ways : ℕ} (pos : 0 < ways) (n k start : ℕ) (want : ℕ → ℕ →
         before : (q : ℕ) → q < tail → getD (set queue tail y) q 0 ≡ getD queue q 0
         before q m = getD-set-other queue tail q y 0 (λ (e : q ≡ tail). omega arith)
 
-    pub flood-turn : {x y : ℕ} → x ≡ getD queue (i / ways) 0 → y ≡ target x (i % ways) → n ≤ 2048 → y < n → (want x (i % ways) ≡ true → Good y)
+    pub flood-turn : {x y : ℕ} → x ≡ getD queue (i / ways) 0 → y ≡ target x (i % ways) → n ≤ mostRows → y < n → (want x (i % ways) ≡ true → Good y)
         → {fresh : Bool} {stamp′ queue′ : List ℕ} {tail′ : ℕ} → fresh ≡ (want x (i % ways) && not (stamped k stamp y))
         → stamp′ ≡ cond fresh (set stamp y k) stamp → queue′ ≡ cond fresh (set queue tail y) queue → tail′ ≡ cond fresh (tail + 1) tail → Flooding stamp′ queue′ (i + 1) tail′
     flood-turn {x} {y} ex ey few ly good {fresh} {stamp′} {queue′} {tail′} ef es eq et = ⊎-elim found known (true-or-false fresh)

@@ -13,6 +13,7 @@ use Rattle.rules.specs.Below.{count}
 use Rattle.rules.specs.Laws.Truth.{not-both, same-test, same-or-not, and-second, or-either, or-first, or-second}
 use Rattle.rules.specs.Laws.Count.{without, count-without, without-is, is-without, count-same, count-not, none-count}
 use Rattle.rules.specs.Laws.Joined.{Picked}
+use Rattle.rules.specs.Job.{mostRows, mostIds}
 
 pub record Ends : Type 0 where
   pub degree : List ℕ
@@ -32,9 +33,9 @@ joined a b e = linked b a (linked a b e)
 
 -- both ends have room for one more
 abbrev pub Roomy : ℕ → ℕ → List ℕ → Type 0
-Roomy a b degree = (a < 1024) × (b < 1024) × (getD degree a 0 ≤ 1024) × (getD degree b 0 ≤ 1024) × (length degree ≡ 1024)
+Roomy a b degree = (a < mostIds) × (b < mostIds) × (getD degree a 0 ≤ mostIds) × (getD degree b 0 ≤ mostIds) × (length degree ≡ mostIds)
 
-pub room-after : {a b : ℕ} (e : Ends) {e′ : Ends} → Roomy a b (e .degree) → e′ ≡ linked a b e → getD (e′ .degree) b 0 < 2048
+pub room-after : {a b : ℕ} (e : Ends) {e′ : Ends} → Roomy a b (e .degree) → e′ ≡ linked a b e → getD (e′ .degree) b 0 < mostRows
 unfolding linked
 room-after {a} {b} e (la, lb, da, db, long) is =
     rw is (⊎-elim (λ (p : b ≡ a). rw (p, getD-set-same (e .degree) a (getD (e .degree) a 0 + 1) 0 (omega arith)) (omega arith))
@@ -42,9 +43,9 @@ room-after {a} {b} e (la, lb, da, db, long) is =
 
 -- the edges `far` between numbers below n
 pub record Kept (n : ℕ) (far : ℕ → ℕ → Bool) (e : Ends) : Type 0 where
-  pub degrees : length (e .degree) ≡ 1024
-  pub lasts : length (e .last) ≡ 1024
-  pub befores : length (e .before) ≡ 1024
+  pub degrees : length (e .degree) ≡ mostIds
+  pub lasts : length (e .last) ≡ mostIds
+  pub befores : length (e .before) ≡ mostIds
   pub counted : (a : ℕ) → a < n → getD (e .degree) a 0 ≡ count n (far a)
   pub one : (a : ℕ) → a < n → 1 ≤ getD (e .degree) a 0 → Picked n (far a) (getD (e .last) a 0)
   pub two : (a : ℕ) → a < n → 2 ≤ getD (e .degree) a 0 → Picked n (far a) (getD (e .before) a 0) × (getD (e .before) a 0 ≢ getD (e .last) a 0)
@@ -59,18 +60,18 @@ kept-same {n} {far} {far′} same k = record {
   two = λ a l d. let ((m, f), ne) = k .two a l d in ((m, sym (same a _ l m) ∙ f), ne);
 }
 
-pub kept-none : (n : ℕ) → n ≤ 1024 → Kept n (λ _ _. false) (ends (replicate 1024 0) (replicate 1024 0) (replicate 1024 0))
+pub kept-none : (n : ℕ) → n ≤ mostIds → Kept n (λ _ _. false) (ends (replicate mostIds 0) (replicate mostIds 0) (replicate mostIds 0))
 kept-none n few = record {
-  degrees = length-replicate {A = ℕ} 1024 0;
-  lasts = length-replicate {A = ℕ} 1024 0;
-  befores = length-replicate {A = ℕ} 1024 0;
+  degrees = length-replicate {A = ℕ} mostIds 0;
+  lasts = length-replicate {A = ℕ} mostIds 0;
+  befores = length-replicate {A = ℕ} mostIds 0;
   counted = λ a l. zero a l ∙ sym (none-count n (λ _. false) (λ _ _. refl));
   one = λ a l d. absurd (omega (arith, zero a l));
   two = λ a l d. absurd (omega (arith, zero a l));
 }
   where
-    zero : (a : ℕ) → a < n → getD {A = ℕ} (replicate 1024 0) a 0 ≡ 0
-    zero a l = getD-replicate {A = ℕ} 1024 a 0 0 (omega arith)
+    zero : (a : ℕ) → a < n → getD {A = ℕ} (replicate mostIds 0) a 0 ≡ 0
+    zero a l = getD-replicate {A = ℕ} mostIds a 0 0 (omega arith)
 
 -- ---- one more edge
 
@@ -78,8 +79,8 @@ kept-none n few = record {
 abbrev pub plus : (ℕ → ℕ → Bool) → ℕ → ℕ → ℕ → ℕ → Bool
 plus far a b x y = far x y || (eqb x a && eqb y b)
 
-module _ {n : ℕ} (few : n ≤ 1024) {far : ℕ → ℕ → Bool} {e : Ends} (k : Kept n far e) (a b : ℕ) (la : a < n) (lb : b < n) where
-  pub degree-below : getD (e .degree) a 0 ≤ 1024
+module _ {n : ℕ} (few : n ≤ mostIds) {far : ℕ → ℕ → Bool} {e : Ends} (k : Kept n far e) (a b : ℕ) (la : a < n) (lb : b < n) where
+  pub degree-below : getD (e .degree) a 0 ≤ mostIds
   degree-below = omega (arith, k .counted a la, count-not n (far a))
 
   module _ (new : far a b ≡ false) where
@@ -138,7 +139,7 @@ module _ {n : ℕ} (few : n ≤ 1024) {far : ℕ → ℕ → Bool} {e : Ends} (k
             ((m, still-far a (getD (e .last) a 0) f), λ (p : getD (e .last) a 0 ≡ b). not-both f (ap (far a) p ∙ new))
 
 -- the edge of a and b, at both ends
-pub kept-joined : {n : ℕ} → n ≤ 1024 → {far : ℕ → ℕ → Bool} {e : Ends} → Kept n far e → (a b : ℕ) → a < n → b < n → a ≢ b → far a b ≡ false → far b a ≡ false
+pub kept-joined : {n : ℕ} → n ≤ mostIds → {far : ℕ → ℕ → Bool} {e : Ends} → Kept n far e → (a b : ℕ) → a < n → b < n → a ≢ b → far a b ≡ false → far b a ≡ false
     → Kept n (plus (plus far a b) b a) (joined a b e)
 kept-joined few {far} k a b la lb ne new new′ =
     kept-linked few (kept-linked few k a b la lb new) b a lb la (rw (new′, ne-eqb b a (λ (p : b ≡ a). ne (sym p))))

@@ -22,6 +22,7 @@ use Rattle.rules.specs.Reading.Skin.{far-back}
 use Rattle.floods.specs.Flood.{stamped, Flooding, Flooded, flood-begins, flood-turn, flood-room, flood-ends, joined-by-count}
 use Rattle.rules.specs.Laws.Highest.{highest, highest-more}
 use Rattle.rings.specs.Ends.{Ends, Kept}
+use Rattle.rules.specs.Job.{mostRows, mostIds}
 
 -- a is an end of one of the edges
 abbrev pub isEnd : ℕ → (ℕ → ℕ → Bool) → ℕ → Bool
@@ -86,7 +87,7 @@ tally-turn {degree} {id = id} t l em ee = record {
   last = rw (ee, t .last) (sym (highest-more id (used degree)));
 }
 
-pub tally-fits : {degree : List ℕ} {n : ℕ} {even : Bool} {ends end id : ℕ} → Tallied degree n even ends end id → n ≤ 1024 → {more : ℕ} → more ≡ cond (used degree id) 1 0 → ends + more ≤ 1025
+pub tally-fits : {degree : List ℕ} {n : ℕ} {even : Bool} {ends end id : ℕ} → Tallied degree n even ends end id → n ≤ mostIds → {more : ℕ} → more ≡ cond (used degree id) 1 0 → ends + more ≤ 1025
 unfolding bit
 tally-fits {degree} {id = id} t few em = omega (arith, t .upto, t .counted, count-not id (used degree), em, bit-small (used degree id))
 
@@ -123,7 +124,7 @@ otherEnd last before x c = cond (eqb c 0) (getD last x 0) (getD before x 0)
 
 -- edges without direction, kept by their ends, two at each
 pub record Even (n : ℕ) (far : ℕ → ℕ → Bool) (e : Ends) : Type 0 where
-  pub few : n ≤ 1024
+  pub few : n ≤ mostIds
   pub kept : Kept n far e
   pub back : (a b : ℕ) → far a b ≡ far b a
   pub even : (a : ℕ) → a < n → isEnd n far a ≡ true → getD (e .degree) a 0 ≡ 2
@@ -183,7 +184,7 @@ module _ {n : ℕ} {far : ℕ → ℕ → Bool} {e : Ends} (v : Even n far e) wh
       joined-by-count two-ways n 1 start always (otherEnd (e .last) (e .before)) (isEnd n far) far (λ x y _ _ f. v .back y x ∙ f) edge-is-move
 
   module _ {start : ℕ} {stamp queue : List ℕ} {i tail : ℕ} (f : FloodingEnds n far e start stamp queue i tail) where
-    pub few-reached : tail ≤ 1024
+    pub few-reached : tail ≤ mostIds
     few-reached = omega (arith, v .few, f .counted, count-not n (stamped 1 stamp))
 
     pub reach-ends : Picked n (isEnd n far) start → 2 * tail ≤ i → eqb tail (count n (isEnd n far)) ≡ connected far (pick n (isEnd n far))
@@ -200,7 +201,7 @@ module _ {n : ℕ} {far : ℕ → ℕ → Bool} {e : Ends} (v : Even n far e) wh
         pub next-below : y < n
         next-below = rw ey (other-far x (i % 2) (chain-ends here) .0)
 
-        pub next-room : not (eqb (getD stamp y 0) 1) ≡ true → tail < 1024
+        pub next-room : not (eqb (getD stamp y 0) 1) ≡ true → tail < mostIds
         unfolding stamped
         next-room on =
             omega (arith, v .few, flood-room two-ways n 1 start always (otherEnd (e .last) (e .before)) (Reach n far start) f y next-below (not-true (stamped 1 stamp y) on))
@@ -212,24 +213,24 @@ module _ {n : ℕ} {far : ℕ → ℕ → Bool} {e : Ends} (v : Even n far e) wh
         reach-turn =
             flood-turn two-ways n 1 start always (otherEnd (e .last) (e .before)) (Reach n far start) f l ex ey (omega (arith, v .few)) next-below (λ _. rw ey (move-good start x (i % 2) here)) refl
 
-  pub reach-begins : (start : ℕ) (stamp queue : List ℕ) → Picked n (isEnd n far) start → length stamp ≡ 2048 → length queue ≡ 2048
+  pub reach-begins : (start : ℕ) (stamp queue : List ℕ) → Picked n (isEnd n far) start → length stamp ≡ mostRows → length queue ≡ mostRows
       → ((y : ℕ) → y < n → getD stamp y 0 < 1) → FloodingEnds n far e start (set stamp start 1) (set queue 0 start) 0 1
   reach-begins start stamp queue here =
       flood-begins two-ways n 1 start always (otherEnd (e .last) (e .before)) (Reach n far start) stamp queue (here .0) (omega (arith, v .few)) (stay here refl)
 
-pub no-stamps : (n : ℕ) → n ≤ 1024 → (y : ℕ) → y < n → getD {A = ℕ} (replicate 2048 0) y 0 < 1
-no-stamps n few y l = rw (getD-replicate {A = ℕ} 2048 y 0 0 (omega arith)) (omega arith)
+pub no-stamps : (n : ℕ) → n ≤ mostIds → (y : ℕ) → y < n → getD {A = ℕ} (replicate mostRows 0) y 0 < 1
+no-stamps n few y l = rw (getD-replicate {A = ℕ} mostRows y 0 0 (omega arith)) (omega arith)
 
 -- ---- the decision
 
 -- edges without direction, kept by their ends
 pub record Edges (n : ℕ) (far : ℕ → ℕ → Bool) (e : Ends) : Type 0 where
-  pub few : n ≤ 1024
+  pub few : n ≤ mostIds
   pub kept : Kept n far e
   pub back : (a b : ℕ) → far a b ≡ far b a
 
 -- the far edges of a vertex are such
-pub far-edges : (t : Table) (inside : ℕ → Bool) (v : ℕ) {n : ℕ} {e : Ends} → n ≤ 1024 → Kept n (farEdge t inside v) e → Edges n (farEdge t inside v) e
+pub far-edges : (t : Table) (inside : ℕ → Bool) (v : ℕ) {n : ℕ} {e : Ends} → n ≤ mostIds → Kept n (farEdge t inside v) e → Edges n (farEdge t inside v) e
 far-edges t inside v few kept = record { few = few; kept = kept; back = far-back t inside v }
 
 -- the ends of some edges

@@ -23,6 +23,7 @@ use Rattle.table.specs.Faces.{cornerOf, faceOf, corner-below}
 use Rattle.table.specs.Ground.{neighbour-below, neighbour-listed}
 use Rattle.skin.specs.Between.{between, between-skin}
 use Rattle.rings.specs.Far.{inFace, InFace, in-face, face-in, corner-of-face, face-corner, Marked}
+use Rattle.rules.specs.Job.{mostIds}
 
 abbrev pub flagged : List ℕ → ℕ → Bool
 flagged flags v = eqb (getD flags v 0) 1
@@ -32,11 +33,11 @@ unfoldable pub seen : List ℕ → List ℕ → ℕ → ℕ → Bool
 seen bytes marks p v = any p (λ q. onSkin (tableIn bytes) (insideIn marks) (q / 4) (q % 4) && inFace (faceOf (tableIn bytes) (q / 4) (q % 4)) v)
 
 pub record Flagged (bytes marks : List ℕ) (p : ℕ) (flags : List ℕ) : Type 0 where
-  pub long : length flags ≡ 1024
+  pub long : length flags ≡ mostIds
   pub same : (v : ℕ) → flagged flags v ≡ seen bytes marks p v
 
 abbrev pub NoFlags : List ℕ → Type 0
-NoFlags flags = (length flags ≡ 1024) × ((v : ℕ) → flagged flags v ≡ false)
+NoFlags flags = (length flags ≡ mostIds) × ((v : ℕ) → flagged flags v ≡ false)
 
 -- the flags tell the skin's vertices
 abbrev pub Told : List ℕ → List ℕ → ℕ → List ℕ → Type 0
@@ -55,7 +56,7 @@ one-flag flags a v l = ⊎-elim here there (same-or-not v a)
     there : v ≢ a → flagged (set flags a 1) v ≡ (flagged flags v || eqb a v)
     there ne = rw (getD-set-other flags a v 1 0 ne, ne-eqb a v (λ (e : a ≡ v). ne (sym e))) (sym (or-false (flagged flags v)))
 
-three-flags : (flags : List ℕ) (f : Face) (v : ℕ) → length flags ≡ 1024 → f .a < 1024 → f .b < 1024 → f .c < 1024
+three-flags : (flags : List ℕ) (f : Face) (v : ℕ) → length flags ≡ mostIds → f .a < mostIds → f .b < mostIds → f .c < mostIds
     → flagged (set (set (set flags (f .a) 1) (f .b) 1) (f .c) 1) v ≡ (flagged flags v || inFace f v)
 unfolding inFace
 three-flags flags f v long la lb lc =
@@ -80,11 +81,11 @@ module _ {bytes neighbours marks : List ℕ} {ids : ℕ} (m : Marked bytes neigh
       (neighbour-listed (m .ground) (place / 4) (place % 4) row corner, rw (m .each) row, rw (m .each) (neighbour-below (m .ground) (place / 4) (place % 4) row corner))
 
   -- each id of the triangle has a flag
-  pub flags-fit : {f : Face} → f ≡ faceOf (tableIn bytes) (place / 4) (place % 4) → (f .a < 1024) × (f .b < 1024) × (f .c < 1024)
+  pub flags-fit : {f : Face} → f ≡ faceOf (tableIn bytes) (place / 4) (place % 4) → (f .a < mostIds) × (f .b < mostIds) × (f .c < mostIds)
   unfolding faceOf
   flags-fit e = rw e (below 0 (lit< tt), below 1 (lit< tt), below 2 (lit< tt))
     where
-      below : (k : ℕ) → k < 3 → tableIn bytes .id (place / 4) (cornerOf (place % 4) k) < 1024
+      below : (k : ℕ) → k < 3 → tableIn bytes .id (place / 4) (cornerOf (place % 4) k) < mostIds
       below k l = omega (arith, m .few, m .ground .paired .below (place / 4) row (cornerOf (place % 4) k) (corner-below (place % 4) k (omega (arith, corner)) l))
 
   pub flags-turn : {flags flags′ : List ℕ} {on : Bool} {f : Face} → Flagged bytes marks place flags → on ≡ between neighbours marks (place / 4) (place % 4)
@@ -140,14 +141,14 @@ module _ {bytes neighbours marks : List ℕ} {ids : ℕ} (m : Marked bytes neigh
           any-here (4 * rowsIn bytes) at (4 * r + c) (place-below {m = 4} (lit< tt) (rowsIn bytes) r c lr lc)
           (rw (row-of {m = 4} (lit< tt) r c lc, within-row {m = 4} (lit< tt) r c lc) (and-both on (face-in (faceOf (tableIn bytes) r c) v (subst (InFace (faceOf (tableIn bytes) r c)) is (corner-of-face (tableIn bytes) r c k lc lk ne)))))
 
-pub no-flags : NoFlags (replicate 1024 0)
-no-flags = (length-replicate {A = ℕ} 1024 0, none)
+pub no-flags : NoFlags (replicate mostIds 0)
+no-flags = (length-replicate {A = ℕ} mostIds 0, none)
   where
-    none : (v : ℕ) → flagged (replicate 1024 0) v ≡ false
-    none v = ne-eqb (getD {A = ℕ} (replicate 1024 0) v 0) 1 (λ e. omega (arith, e, zero v))
+    none : (v : ℕ) → flagged (replicate mostIds 0) v ≡ false
+    none v = ne-eqb (getD {A = ℕ} (replicate mostIds 0) v 0) 1 (λ e. omega (arith, e, zero v))
       where
-        zero : (v : ℕ) → getD {A = ℕ} (replicate 1024 0) v 0 ≡ 0
-        zero v = ⊎-elim (λ l. getD-replicate {A = ℕ} 1024 v 0 0 (ltb-true v 1024 l)) (λ l. List·getD-eq-default {A = ℕ} (replicate 1024 0) 0 {n = v} (rw (length-replicate {A = ℕ} 1024 0) (ltb-false v 1024 l))) (true-or-false (ltb v 1024))
+        zero : (v : ℕ) → getD {A = ℕ} (replicate mostIds 0) v 0 ≡ 0
+        zero v = ⊎-elim (λ l. getD-replicate {A = ℕ} mostIds v 0 0 (ltb-true v mostIds l)) (λ l. List·getD-eq-default {A = ℕ} (replicate mostIds 0) 0 {n = v} (rw (length-replicate {A = ℕ} mostIds 0) (ltb-false v mostIds l))) (true-or-false (ltb v mostIds))
 
 -- a vertex that is flagged and has no ring is what code 12 looks for
 pub ringless-told : (bytes marks flags : List ℕ) (ids : ℕ) → Told bytes marks ids flags → (v : ℕ) {r : Bool}

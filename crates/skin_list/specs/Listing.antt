@@ -3,7 +3,7 @@ use mathlib.Core.Path.{_≡_, refl, sym, ap, _∙_}
 use mathlib.Core.Logic.{⊎-elim}
 use mathlib.Core.Bool.{Bool, true, false, _&&_, cond}
 use mathlib.Core.List.{List, [], _∷_, _++_, flatten, append-nil, map}
-use Prim.Native.Nat.{ℕ, suc, _+_, _*_, _/_, _%_, _^_, _≤_, _<_}
+use Prim.Native.Nat.{ℕ, suc, _+_, _*_, _/_, _%_, _≤_, _<_}
 use native.Mathlib.Nat.{not-suc-le-zero, le-antisymm, le-trans, mod-lt}
 use native.Mathlib.Numerals.{add-one}
 use native.Mathlib.Omega.{arith}
@@ -19,10 +19,9 @@ use Rattle.rules.specs.Laws.Below.{below-suc}
 use Rattle.rules.specs.Laws.Truth.{true-or-false}
 use Rattle.rules.specs.Laws.Lists.{gather-more, gather-same, gather-blocks, gather-grows, flatten-snoc}
 use Rattle.rules.specs.Laws.Places.{row-of, within-row, row-below}
-use Rattle.rules.specs.Laws.Words.{word-below}
 use Rattle.rules.specs.Laws.Written.{written-none, written-run}
 use Rattle.rules.specs.Reading.Room.{at-most-2N, triangle-length}
-use Rattle.table.specs.Rows.{idIn, tableIn, id-word, rowsIn}
+use Rattle.table.specs.Rows.{idIn, tableIn, rowsIn}
 use Rattle.table.specs.Faces.{faceCorners, cornerOf}
 use Rattle.table.specs.Ground.{Ground, neighbour-below, neighbour-listed}
 use Rattle.skin.specs.Between.{between, between-skin}
@@ -43,10 +42,6 @@ pub triangle-put : (bytes : List ℕ) (r c : ℕ) → c < 4 → (triangles : Lis
 triangle-put bytes r c l triangles at ei ej ek =
     let two : suc (suc at) ≡ at + 2 = omega arith in
     rw (triangle-ids bytes r c l, ei, ej, ek, two, ← add-one at)
-
--- an id is a word of four bytes
-pub id-fits : (bytes : List ℕ) → ((k : ℕ) → getD bytes k 0 < 256) → (r c : ℕ) → r < rowsIn bytes → c < 4 → idIn bytes r c < 256 ^ 4
-id-fits bytes small r c l m = rw (id-word bytes r c l m) (word-below 4 bytes small (16 * r + 4 * c))
 
 -- ---- place by place
 

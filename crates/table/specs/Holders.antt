@@ -30,6 +30,7 @@ use Rattle.table.specs.Places.{faceAt, face-at, like, like-count, broken
 use Rattle.table.specs.Rows.{rowsIn, tableIn, RisingRows}
 use Rattle.table.specs.Ground.{Ground}
 use Rattle.floods.specs.Flood.{stamped, Flooding, Flooded, flood-begins, flood-turn, flood-room, flood-ends, joined-by-count}
+use Rattle.rules.specs.Job.{mostRows}
 
 unfoldable pub bothJoined : Table → ℕ → ℕ → Bool
 bothJoined t a b = connected (neighbours t) (pick (t .rows) (both t a b))
@@ -52,15 +53,15 @@ Joint base m = Kind base m × (4 ≤ base)
 
 -- stamps and a queue between two floods: the stamps are at most k
 pub record Scratch (n k : ℕ) (stamp queue : List ℕ) : Type 0 where
-  pub stamps : length stamp ≡ 2048
-  pub places : length queue ≡ 2048
+  pub stamps : length stamp ≡ mostRows
+  pub places : length queue ≡ mostRows
   pub low : (y : ℕ) → y < n → getD stamp y 0 ≤ k
 
-pub zero-scratch : (n : ℕ) → n ≤ 2048 → Scratch n 0 (replicate 2048 0) (replicate 2048 0)
+pub zero-scratch : (n : ℕ) → n ≤ mostRows → Scratch n 0 (replicate mostRows 0) (replicate mostRows 0)
 zero-scratch n few = record {
-  stamps = length-replicate {A = ℕ} 2048 0;
-  places = length-replicate {A = ℕ} 2048 0;
-  low = λ y l. rw (getD-replicate {A = ℕ} 2048 y 0 0 (omega arith)) (omega arith);
+  stamps = length-replicate {A = ℕ} mostRows 0;
+  places = length-replicate {A = ℕ} mostRows 0;
+  low = λ y l. rw (getD-replicate {A = ℕ} mostRows y 0 0 (omega arith)) (omega arith);
 }
 
 -- ---- edge rule and vertex rule by faces
@@ -118,16 +119,16 @@ abbrev pub FloodingRows : List ℕ → ℕ → ℕ → ℕ → ℕ → List ℕ 
 FloodingRows bytes a b start k = Flooding four-ways (rowsIn bytes) k start (leaves (tableIn bytes) a b) (across (tableIn bytes)) (Joining (tableIn bytes) a b start)
 
 module _ {bytes work : List ℕ} {ids : ℕ} (ground : Ground bytes work ids) (a b start k : ℕ) where
-  pub rows-begin : (stamp queue : List ℕ) → start < rowsIn bytes → both (tableIn bytes) a b start ≡ true → length stamp ≡ 2048 → length queue ≡ 2048
+  pub rows-begin : (stamp queue : List ℕ) → start < rowsIn bytes → both (tableIn bytes) a b start ≡ true → length stamp ≡ mostRows → length queue ≡ mostRows
       → ((y : ℕ) → y < rowsIn bytes → getD stamp y 0 < k) → FloodingRows bytes a b start k (set stamp start k) (set queue 0 start) 0 1
   rows-begin stamp queue l held = flood-begins four-ways (rowsIn bytes) k start (leaves (tableIn bytes) a b) (across (tableIn bytes)) (Joining (tableIn bytes) a b start) stamp queue l (ground .few) (stay (l, held) refl)
 
   module _ {stamp queue : List ℕ} {i tail : ℕ} (f : FloodingRows bytes a b start k stamp queue i tail) where
-    pub few-reached : tail ≤ 2048
+    pub few-reached : tail ≤ mostRows
     few-reached = omega (arith, ground .few, f .counted, count-not (rowsIn bytes) (stamped k stamp))
 
     pub rows-end : start < rowsIn bytes → both (tableIn bytes) a b start ≡ true → 4 * tail ≤ i → (eqb tail (count (rowsIn bytes) (both (tableIn bytes) a b)) ≡ bothJoined (tableIn bytes) a b)
-        × (length stamp ≡ 2048) × (length queue ≡ 2048) × ((y : ℕ) → y < rowsIn bytes → getD stamp y 0 ≤ k)
+        × (length stamp ≡ mostRows) × (length queue ≡ mostRows) × ((y : ℕ) → y < rowsIn bytes → getD stamp y 0 ≤ k)
     rows-end ls held l = (rows-joined (ground .paired) refl a b k start stamp tail (ls, held) (flood-ends four-ways (rowsIn bytes) k start (leaves (tableIn bytes) a b) (across (tableIn bytes)) (Joining (tableIn bytes) a b start) f l), f .stamps, f .places, f .low)
 
 -- row x stands at place i of the queue, and the corners below `corner` are done
@@ -197,7 +198,7 @@ module _ {bytes work : List ℕ} {ids : ℕ} (ground : Ground bytes work ids) (a
             either false = s .from
 
         -- a fresh row finds room in the queue
-        pub next-room : not (eqb (getD stamp z 0) k) ≡ true → tail < 2048
+        pub next-room : not (eqb (getD stamp z 0) k) ≡ true → tail < mostRows
         unfolding stamped
         next-room on =
             omega (

@@ -18,6 +18,7 @@ use Rattle.rules.specs.Reading.Rows.{Rising}
 use Rattle.table.specs.declared.faces.Face.{Face}
 use Rattle.table.specs.Faces.{Kind, faceOf, sameIds, same-ids, ids-same, holdsIds, keyOf, kind-small, own-face, has-face, one-face}
 use Rattle.table.specs.Chains.{Threaded}
+use Rattle.rules.specs.Job.{mostRows}
 
 abbrev pub faceAt : Table → ℕ → ℕ → ℕ → Face
 faceAt t base m place = faceOf t (place / m) (base + place % m)
@@ -39,7 +40,7 @@ like-key t base m p q e = ap keyOf (sym (same-ids (faceAt t base m p) (faceAt t 
 abbrev pub Chained : Table → ℕ → ℕ → List ℕ → List ℕ → Type 0
 Chained t base m head next = Threaded (λ p. keyOf (faceAt t base m p)) (m * t .rows) 0 head next
 
-pub places-fit : {base m n : ℕ} → Kind base m → n ≤ 2048 → m * n ≤ 12288
+pub places-fit : {base m n : ℕ} → Kind base m → n ≤ mostRows → m * n ≤ 12288
 places-fit kind l = mul-le-mul (kind-small kind .1) l
 
 -- ---- the face at a place, kind by kind

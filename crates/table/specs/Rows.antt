@@ -1,15 +1,16 @@
 -- The table that the bytes of a row section stand for, and what a search for a row gives.
 use mathlib.Core.Path.{_≡_, refl, ap, _∙_}
 use mathlib.Core.List.{List}
-use Prim.Native.Nat.{ℕ, _+_, _*_, _/_, _<_, _≤_}
+use Prim.Native.Nat.{ℕ, _+_, _*_, _/_, _^_, _<_, _≤_}
 use native.Mathlib.Omega.{arith}
 use mathlib.Core.Option.{none}
-use lib.ListN.{length}
+use lib.ListN.{length, getD}
 use Rattle.rules.specs.Below.{lowest}
 use Rattle.rules.specs.Words.{word}
 use Rattle.rules.specs.Table.{Table, tableOf}
 use Rattle.rules.specs.Job.{track, rowsTable, mostRows, badRow, notAfter}
 use Rattle.rules.specs.Laws.Lists.{tabulate-at}
+use Rattle.rules.specs.Laws.Words.{word-below}
 use Rattle.rules.specs.Reading.Rows.{Rising}
 use Rattle.rules.specs.Reading.Codes.{all-rising}
 
@@ -33,6 +34,10 @@ pub id-word : (bytes : List ℕ) (r c : ℕ) → r < rowsIn bytes → c < 4 → 
 unfolding idIn rowsTable tableOf
 id-word bytes r c l m =
     tabulate-at (4 * rowsIn bytes) (λ k. word 4 bytes (4 * k)) 0 (4 * r + c) (omega arith) ∙ ap (word 4 bytes) (omega arith)
+
+-- an id is a word of four bytes
+pub id-fits : (bytes : List ℕ) → ((k : ℕ) → getD bytes k 0 < 256) → (r c : ℕ) → r < rowsIn bytes → c < 4 → idIn bytes r c < 256 ^ 4
+id-fits bytes small r c l m = rw (id-word bytes r c l m) (word-below 4 bytes small (16 * r + 4 * c))
 
 -- ---- what each code has shown of a row section
 

@@ -2,7 +2,7 @@ use mathlib.Core.Path.{_∙_, ap}
 use native.Mathlib.Omega.{arith}
 use Rattle.table.specs.Rows.{idIn}
 use Rattle.table.specs.Faces.{corner-below}
-use Rattle.skin_list.specs.Listing.{id-fits}
+use Rattle.table.specs.Rows.{id-fits}
 use borrow.Author.Needs.{needs}
 use Rattle.skin_list.proofs.triangle_id.Statement.{statement}
 use Rattle.skin_list.proofs.triangle_id.Tie as tie

@@ -24,7 +24,7 @@ shared-slice-read-print-number : tie.Need-shared-slice-read-print-number Inv-loo
 shared-slice-read-print-number c = search needs
 
 cast-print-number : tie.Need-cast-print-number Inv-loop μ-loop
-cast-print-number c = omega (arith, c .shared-slice-known3 .given _)
+cast-print-number c = omega (arith, c .shared-slice-known3 .given (c .before .before .loop .i))
 
 add-i : tie.Need-add-i Inv-loop μ-loop
 add-i c = search needs
