@@ -10,6 +10,7 @@
 --     Codes       each code exactly in its case, and what it leaves
 --     Room        at most 2N triangles, each once
 --     Small       how large what a run gives can be
+--     File        where an id, a mark and a proposal stand in the job file
 pub mod Rows
 pub mod Neighbours
 pub mod Closed
@@ -21,3 +22,4 @@ pub mod Answers
 pub mod Codes
 pub mod Room
 pub mod Small
+pub mod File
