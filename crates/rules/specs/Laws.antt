@@ -12,6 +12,7 @@
 --     Words      numbers in bytes
 --     Written    a list at the front of a buffer
 --     Job        what a job takes from its header
+--     Made       job files made from their parts
 pub mod Truth
 pub mod Below
 pub mod Count
@@ -25,3 +26,4 @@ pub mod Proposals
 pub mod Words
 pub mod Written
 pub mod Job
+pub mod Made

@@ -9,6 +9,7 @@
 --     Cases       the five cases
 --     Proposals   answers, and the marks after them
 --     Job         the file, the twelve codes, the lent buffers, the run
+--     Made        job files made from their parts
 -- Laws holds what follows from the definitions one by one. Reading says each sentence of document 01 in plain relations and proves it
 -- equal in meaning to its definition. Worked holds document 01's jobs with known results, and further ones, as computed theorems.
 pub mod Below
@@ -21,6 +22,7 @@ pub mod First
 pub mod Cases
 pub mod Proposals
 pub mod Job
+pub mod Made
 pub mod Laws
 pub mod Reading
 pub mod Worked

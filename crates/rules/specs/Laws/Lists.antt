@@ -1,4 +1,4 @@
--- Laws of gathered, tabulated and picked lists.
+-- Laws of gathered, tabulated and picked lists, and of parts.
 use mathlib.Core.Path.{_≡_, refl, sym, ap, _∙_, subst, fun-ext}
 use mathlib.Core.Logic.{⊎-elim}
 use mathlib.Core.Bool.{Bool, true, false}
@@ -7,8 +7,8 @@ use Prim.Native.Nat.{ℕ, zero, suc, _+_, _-_, _*_, _≤_, _<_}
 use native.Mathlib.Nat.{le-of-suc-le-suc, not-suc-le-zero, eq-or-lt-of-le, le-refl, le-step, lt-irrefl, add-zero, add-suc, mul-zero, mul-suc}
 use native.Mathlib.Numerals.{add-one}
 use native.Mathlib.Omega.{arith}
-use lib.ListN.{length, getD, length-append, List·getD-append}
-use lib.Seq.{getD-at}
+use lib.ListN.{length, getD, take, drop, length-append, length-drop, List·getD-append}
+use lib.Seq.{length-take-le, getD-at, ext-getD}
 use Rattle.rules.specs.Below.{bit, sum, count, gather, tabulate, only, pick}
 use Rattle.rules.specs.Laws.Truth.{not-both}
 
@@ -87,6 +87,16 @@ module _ {ℓ} {A : Type ℓ} where
       ⊎-elim (λ (e : k ≡ n). getD-at (tabulate n f) (f n) [] d k (tabulate-length n f ∙ sym e) ∙ ap f (sym e))
       (λ (l : k < n). List·getD-append (tabulate n f) (f n ∷ []) d k (subst (λ (m : ℕ). k < m) (sym (tabulate-length n f)) l) ∙ tabulate-at n f d k l)
       (eq-or-lt-of-le (le-of-suc-le-suc h))
+
+  -- the list with these members
+  pub tabulate-is : (n : ℕ) (f : ℕ → A) (d : A) (xs : List A) → length xs ≡ n → ((k : ℕ) → k < n → f k ≡ getD xs k d) → tabulate n f ≡ xs
+  tabulate-is n f d xs e same =
+      ext-getD d (tabulate n f) xs (tabulate-length n f ∙ sym e) (λ k l. let below = rw (tabulate-length n f) at l in tabulate-at n f d k below ∙ same k below)
+
+  -- ---- parts
+
+  pub part-length : (xs : List A) (start size : ℕ) → start + size ≤ length xs → length (take size (drop start xs)) ≡ size
+  part-length xs start size l = length-take-le size (drop start xs) (rw (length-drop start xs) (omega arith))
 
   -- ---- one, if a test passes
 

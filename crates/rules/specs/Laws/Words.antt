@@ -1,12 +1,12 @@
--- Laws of words: the bytes one by one, a word of a part, and how large a word can be.
-use mathlib.Core.Path.{_≡_, refl}
-use mathlib.Core.List.{List}
-use Prim.Native.Nat.{ℕ, zero, suc, _+_, _*_, _^_, _≤_, _<_}
-use native.Mathlib.Nat.{add-assoc, add-zero, mul-zero, zero-lt-suc, pow-suc}
+-- Laws of words: the bytes one by one, a word of a part, how large a word can be, and words written down.
+use mathlib.Core.Path.{_≡_, refl, _∙_}
+use mathlib.Core.List.{List, [], _∷_, _++_}
+use Prim.Native.Nat.{ℕ, zero, suc, _+_, _*_, _/_, _%_, _^_, _≤_, _<_}
+use native.Mathlib.Nat.{add-assoc, add-zero, mul-zero, zero-lt-suc, not-suc-le-zero, le-of-suc-le-suc, pow-suc, mod-add-div}
 use native.Mathlib.Omega.{arith}
-use lib.ListN.{getD, take, drop}
-use lib.Seq.{getD-take, getD-drop}
-use Rattle.rules.specs.Words.{word}
+use lib.ListN.{length, getD, take, drop}
+use lib.Seq.{getD-take, getD-drop, getD-append-add}
+use Rattle.rules.specs.Words.{word, bytesOf, words}
 
 pub word-four : (bytes : List ℕ) (place : ℕ)
     → word 4 bytes place ≡ getD bytes place 0 + 256 * (getD bytes (place + 1) 0 + 256 * (getD bytes (place + 2) 0 + 256 * getD bytes (place + 3) 0))
@@ -26,3 +26,26 @@ pub word-below : (width : ℕ) (bytes : List ℕ) → ((k : ℕ) → getD bytes 
 unfolding word
 word-below zero bytes small place = zero-lt-suc 0
 word-below (suc width) bytes small place = rw pow-suc (omega (arith, small place, word-below width bytes small (place + 1)))
+
+-- ---- words written down
+
+-- a word after so many bytes
+pub word-after : (width : ℕ) (xs ys : List ℕ) (place k : ℕ) → place ≡ length xs + k → word width (xs ++ ys) place ≡ word width ys k
+unfolding word
+word-after zero xs ys place k e = refl
+word-after (suc width) xs ys place k e =
+    rw (word-after width xs ys (place + 1) (k + 1) (omega arith), e, getD-append-add xs ys k 0)
+
+-- the bytes of a number stand for it
+pub word-bytes : (width n : ℕ) (rest : List ℕ) → n < 256 ^ width → word width (bytesOf width n ++ rest) 0 ≡ n
+unfolding word
+word-bytes zero n rest l = omega arith
+word-bytes (suc width) n rest l =
+    rw (word-after width (n % 256 ∷ []) (bytesOf width (n / 256) ++ rest) 1 0 refl, word-bytes width (n / 256) rest (omega (arith, pow-suc 256 width))) (mod-add-div n 256)
+
+-- word i of words
+pub words-at : (ns rest : List ℕ) (i : ℕ) → i < length ns → getD ns i 0 < 256 ^ 4 → word 4 (words ns ++ rest) (4 * i) ≡ getD ns i 0
+words-at [] rest i l small = absurd (not-suc-le-zero l)
+words-at (n ∷ ns) rest zero l small = word-bytes 4 n (words ns ++ rest) small
+words-at (n ∷ ns) rest (suc i) l small =
+    word-after 4 (bytesOf 4 n) (words ns ++ rest) (4 * suc i) (4 * i) (omega arith) ∙ words-at ns rest i (le-of-suc-le-suc l) small
