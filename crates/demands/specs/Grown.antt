@@ -1,36 +1,34 @@
--- Demand 2. In an accepted job each proposal is answered by the listed tests and Lhuillier's five cases, and the skin list is exactly
--- the triangles with one tetrahedron inside and one outside.
-use mathlib.Core.Path.{_≡_, sym, ap, _∙_}
-use mathlib.Core.Logic.{_↔_}
-use mathlib.Core.Bool.{Bool, true}
+-- Demand 2 is kept.
+use mathlib.Core.Path.{_≡_, refl, sym, ap, _∙_, subst}
 use mathlib.Core.List.{List, flatten}
-use Prim.Native.Nat.{ℕ, _+_, _<_}
-use lib.ListN.{length, getD}
+use Prim.Native.Nat.{ℕ, _+_, _*_, _<_}
+use native.Mathlib.Numerals.{add-one}
+use native.Mathlib.Omega.{arith}
+use lib.ListN.{length, getD, take}
+use lib.Seq.{take-all, take-at, take-suc}
 use Rattle.rules.specs.Table.{neighbourList}
-use Rattle.rules.specs.Skin.{onSkin}
-use Rattle.rules.specs.Proposals.{Proposal, insideIn, answer, taken}
+use Rattle.rules.specs.Proposals.{insideIn, answer, marksAfter, finalMarks, taken}
 use Rattle.rules.specs.Job.{track, headerOf, Job, jobOf, answersOf, standing, finalOf, skinWith, Lent, written, Result, accepted, run}
-use Rattle.rules.specs.Laws.Lists.{Among, Distinct}
+use Rattle.rules.specs.Laws.Count.{TheOther}
 use Rattle.rules.specs.Laws.Written.{written-at}
-use Rattle.rules.specs.Laws.Proposals.{answer-at}
-use Rattle.rules.specs.Laws.First.{FirstOf, conditionAt}
-use Rattle.rules.specs.Laws.Job.{job-corners, job-proposals, job-answers}
-use Rattle.rules.specs.Reading.Closed.{Closed}
-use Rattle.rules.specs.Reading.Answers.{answerConditions, answer-exactly, taken-exactly}
-use Rattle.rules.specs.Reading.Skin.{BetweenSides, skin-between-sides}
-use Rattle.rules.specs.Reading.Room.{Listed, skin-listed, skin-once}
+use Rattle.rules.specs.Laws.Proposals.{answer-at, final-more}
+use Rattle.rules.specs.Laws.Job.{job-corners, job-rows, job-proposals, job-answers}
+use Rattle.rules.specs.Reading.Neighbours.{Side}
+use Rattle.rules.specs.Reading.Closed.{Closed, across-is, across-other, list-length, list-at}
+use Rattle.rules.specs.Reading.Answers.{answer-exactly, taken-exactly}
+use Rattle.rules.specs.Reading.Skin.{inside-reads}
+use Rattle.rules.specs.Reading.Room.{skin-once, skin-listed}
+use Rattle.rules.specs.Reading.Listing.{triangle-rises, sides-listed}
 use Rattle.rules.specs.Reading.Codes.{run-accepted, run-code, accepted-closed}
+use Rattle.manifold.specs.Steps.{after-taken, after-refused}
 use Rattle.track.specs.declared.Outcome.{Outcome}
 use Rattle.track.specs.Outcomes.{result}
-use Rattle.demands.specs.Given.{Allowed, code-is}
+use Rattle.demands.specs.Demands.{proposalAt, Demand2}
+use Rattle.demands.specs.Given.{code-is}
 
-module _ (bytes : List ℕ) (before : Lent) {o : Outcome} {after : Lent} (ran : Allowed bytes before o after) (zero-code : o .code ≡ 0) where
+module _ (bytes : List ℕ) (before : Lent) {o : Outcome} {after : Lent} (ran : result o after ≡ run track bytes before) (zero-code : o .code ≡ 0) where
   abbrev job : Job
   job = jobOf track bytes
-
-  -- which rows are inside at the end
-  abbrev inside : ℕ → Bool
-  inside = insideIn (finalOf job)
 
   pub job-accepted : run track bytes before .code ≡ 0
   job-accepted = sym (code-is bytes before ran) ∙ zero-code
@@ -41,61 +39,97 @@ module _ (bytes : List ℕ) (before : Lent) {o : Outcome} {after : Lent} (ran : 
   is : result o after ≡ accepted job before
   is = ran ∙ run-accepted track bytes before (sym (run-code track bytes before) ∙ job-accepted)
 
-  -- the answers stand at the front, and all after them is unchanged
-  pub answers-left : after .answers ≡ written (answersOf job) (before .answers)
+  pub answers-are : after .answers ≡ written (answersOf job) (before .answers)
   unfolding accepted
-  answers-left = ap (λ (r : Result). r .left .answers) is
+  answers-are = ap (λ (r : Result). r .left .answers) is
 
-  -- answer k is that to proposal k on the marks then standing, those that the k proposals before it left
-  pub each-answer : (d : Proposal) (k : ℕ) → k < headerOf bytes .proposals → getD (after .answers) k 0 ≡ answer (job .table) (standing job k) (getD (job .proposals) k d)
-  each-answer d k l =
-      ap (λ (xs : List ℕ). getD xs k 0) answers-left
+  pub marks-are : after .finalMarks ≡ written (finalOf job) (before .finalMarks)
+  unfolding accepted
+  marks-are = ap (λ (r : Result). r .left .finalMarks) is
+
+  triangles-are : after .triangles ≡ written (flatten (skinWith job (finalOf job))) (before .triangles)
+  unfolding accepted
+  triangles-are = ap (λ (r : Result). r .left .triangles) is
+
+  work-is : after .work ≡ written (neighbourList (job .table)) (before .work)
+  unfolding accepted
+  work-is = ap (λ (r : Result). r .left .work) is
+
+  pub taken-is : o .taken ≡ taken (answersOf job)
+  unfolding accepted
+  taken-is = ap (λ (r : Result). r .taken) is
+
+  triangles-is : o .triangles ≡ length (skinWith job (finalOf job))
+  unfolding accepted
+  triangles-is = ap (λ (r : Result). r .triangles) is
+
+  place-is : o .place ≡ 0
+  unfolding accepted
+  place-is = ap (λ (r : Result). r .place) is
+
+  -- ---- the answers
+
+  taken-told : o .taken ≡ taken (take (headerOf bytes .proposals) (after .answers))
+  unfolding written
+  taken-told = taken-is ∙ ap taken (sym (ap (take (headerOf bytes .proposals)) answers-are ∙ take-at (answersOf job) _ _ (job-answers track bytes)))
+
+  -- answer k is that to proposal k on the marks that the proposals before it left
+  pub each-answer : (k : ℕ) → k < headerOf bytes .proposals → getD (after .answers) k 0 ≡ answer (job .table) (standing job k) (proposalAt job k)
+  each-answer k l =
+      ap (λ (xs : List ℕ). getD xs k 0) answers-are
       ∙ written-at (answersOf job) (before .answers) k (rw (job-answers track bytes) l)
-      ∙ answer-at (job .table) (job .marks) (job .proposals) d k (rw (job-proposals track bytes) l)
+      ∙ answer-at (job .table) (job .marks) (job .proposals) _ k (rw (job-proposals track bytes) l)
 
-  -- an answer is 1 + i exactly if row 1 + i of the table of answers holds and none before it, and 0 exactly if none holds
-  pub answered-exactly : (marks : List ℕ) (p : Proposal) (i : ℕ) → i < 5
-      → (answer (job .table) marks p ≡ 1 + i) ↔ ((place : ℕ) × FirstOf (answerConditions (job .table) marks p) i place)
-  answered-exactly = answer-exactly (job .table)
+  next : (k : ℕ) → k < headerOf bytes .proposals → standing job (k + 1) ≡ marksAfter (job .table) (standing job k) (proposalAt job k)
+  next k l =
+      ap (finalMarks (job .table) (job .marks)) (ap (λ (n : ℕ). take n (job .proposals)) (add-one k) ∙ take-suc (job .proposals) k _ (rw (job-proposals track bytes) l))
+      ∙ final-more (job .table) (job .marks) (take k (job .proposals)) (proposalAt job k)
 
-  pub taken-only : (marks : List ℕ) (p : Proposal)
-      → (answer (job .table) marks p ≡ 0) ↔ ((i place : ℕ) → conditionAt (answerConditions (job .table) marks p) i place → ⊥)
-  taken-only = taken-exactly (job .table)
+  pub final-is : finalOf job ≡ standing job (headerOf bytes .proposals)
+  final-is = ap (finalMarks (job .table) (job .marks)) (sym (take-all (headerOf bytes .proposals) (job .proposals) (omega (arith, job-proposals track bytes))))
 
-  -- the counts: the answers that are 0, and the triangles of the skin
-  pub taken-counted : o .taken ≡ taken (answersOf job)
-  unfolding accepted
-  taken-counted = ap (λ (r : Result). r .taken) is
+  neighbour : (r c : ℕ) → r < job .table .rows → c < 4 → (other : TheOther (job .table .rows) (Side (job .table) r c) r) × (getD (after .work) (4 * r + c) 0 ≡ other .other)
+  neighbour r c lr l =
+      let t = job .table in
+      let four = job-corners track bytes in
+      let lc : c < t .corners = rw four l in
+      let other = across-is (job-closed .paired) r c lr lc in (
+        other,
+        ap (λ (xs : List ℕ). getD xs (4 * r + c) 0) work-is
+            ∙ written-at (neighbourList t) (before .work) (4 * r + c) (rw (list-length t, four) (omega arith))
+            ∙ ap (λ (n : ℕ). getD (neighbourList t) (n * r + c) 0) (sym four)
+            ∙ list-at t r c lr lc
+            ∙ across-other t r c other,
+      )
 
-  pub triangles-counted : o .triangles ≡ length (skinWith job (finalOf job))
-  unfolding accepted
-  triangles-counted = ap (λ (r : Result). r .triangles) is
-
-  pub place-zero : o .place ≡ 0
-  unfolding accepted
-  place-zero = ap (λ (r : Result). r .place) is
-
-  -- the final marks, the skin by inside row and then left-out corner, three ids each, and the neighbour list stand at the front
-  pub marks-left : after .finalMarks ≡ written (finalOf job) (before .finalMarks)
-  unfolding accepted
-  marks-left = ap (λ (r : Result). r .left .finalMarks) is
-
-  pub triangles-left : after .triangles ≡ written (flatten (skinWith job (finalOf job))) (before .triangles)
-  unfolding accepted
-  triangles-left = ap (λ (r : Result). r .left .triangles) is
-
-  pub work-left : after .work ≡ written (neighbourList (job .table)) (before .work)
-  unfolding accepted
-  work-left = ap (λ (r : Result). r .left .work) is
-
-  -- the triangles listed are those of inside rows with one row inside and one outside
-  pub listed-exactly : (ids : List ℕ) → Among ids (skinWith job (finalOf job)) ↔ Listed (job .table) inside ids
-  listed-exactly = skin-listed (job .table) inside
-
-  pub between-sides : (r c : ℕ) → r < job .table .rows → c < job .table .corners
-      → (onSkin (job .table) inside r c ≡ true) ↔ BetweenSides (job .table) inside (job-closed .paired) r c
-  between-sides = skin-between-sides (job .table) inside (job-closed .paired)
-
-  -- each once
-  pub listed-once : Distinct (skinWith job (finalOf job))
-  listed-once = skin-once (job .table) inside (job-closed .paired) (job-corners track bytes)
+  pub demand-2 : Demand2 bytes before o after
+  unfolding finalMarks
+  demand-2 =
+      let t = job .table in
+      let four = job-corners track bytes in
+      let told = inside-reads (finalOf job) in
+      record {
+        answered-exactly = λ k i l m.
+            let (forth, back) = answer-exactly t (standing job k) (proposalAt job k) i m in (λ e. forth (sym (each-answer k l) ∙ e), λ x. each-answer k l ∙ back x);
+        taken-exactly = λ k l.
+            let (forth, back) = taken-exactly t (standing job k) (proposalAt job k) in (λ e. forth (sym (each-answer k l) ∙ e), λ x. each-answer k l ∙ back x);
+        starts = refl;
+        taken-flips = λ k l e. next k l ∙ after-taken t (standing job k) (proposalAt job k) (sym (each-answer k l) ∙ e);
+        refused-keeps = λ k l ne. next k l ∙ after-refused t (standing job k) (proposalAt job k) (λ e. ne (each-answer k l ∙ e));
+        ends = final-is;
+        listed-exactly = sides-listed t four (job-closed .paired) (insideIn (finalOf job)) told;
+        ids-rise = λ ids m.
+            let x = skin-listed t (insideIn (finalOf job)) told ids .0 m in
+            let (a, b, c, ab, bc, e) = triangle-rises t four (job-closed .paired) (x .row) (x .corner) (x .row-below) (rw four at (x .corner-below)) in
+            (a, b, c, ab, bc, x .ids-are ∙ e);
+        listed-once = skin-once t (insideIn (finalOf job)) (job-closed .paired) four;
+        neighbour-at =
+            subst (λ (n : ℕ). (r c : ℕ) → r < n → c < 4 → (other : TheOther n (Side t r c) r) × (getD (after .work) (4 * r + c) 0 ≡ other .other)) (job-rows track bytes) neighbour;
+        taken-counted = taken-told;
+        triangles-counted = triangles-is;
+        place-zero = place-is;
+        answers-left = answers-are;
+        marks-left = marks-are;
+        triangles-left = triangles-are;
+        work-left = work-is;
+      }

@@ -1,16 +1,14 @@
--- Any two results that a public call's contract allows for one input are equal. Most contracts are an equation between the result, or
--- what is left in a buffer, and a definition of the input; there `settled` is all there is to say. Where the result is an enum behind a
--- definition that gives document 01's number and place, that definition tells its cases apart.
+-- Where an answer is an enum behind a definition that gives document 01's number and place: the case that these stand for. That the
+-- definition tells its cases apart is what leaves one possible result.
 use mathlib.Core.Path.{_≡_, refl, sym, ap, _∙_}
-use mathlib.Core.Bool.{cond}
+use mathlib.Core.Bool.{true, _&&_, cond}
 use mathlib.Core.List.{List}
+use mathlib.Core.Option.{Option, some, none}
 use Prim.Native.Nat.{ℕ}
-use mathlib.Core.Option.{Option}
-use native.Mathlib.Omega.{arith}
 use lib.Dec.{eqb}
-use Rattle.rules.specs.First.{Verdict, firstMatch}
-use Rattle.rules.specs.Table.{Table, neighbourList}
-use Rattle.rules.specs.Job.{Lent, Result, written, tableTests, markTests}
+use borrow.Author.Tests.{eq-eqb}
+use Rattle.rules.specs.First.{Verdict}
+use Rattle.rules.specs.Laws.Truth.{and-both}
 use Rattle.values.specs.declared.Found.{Found}
 use Rattle.values.specs.declared.Found.the-variants.{At, Nowhere}
 use Rattle.values.specs.Search.{placeOf}
@@ -20,64 +18,58 @@ use Rattle.table.specs.Closed as closed
 use Rattle.marks.specs.declared.Unfit.{Unfit}
 use Rattle.marks.specs.declared.Unfit.the-variants as unfit
 use Rattle.marks.specs.Start as start
-use Rattle.track.specs.declared.Outcome.{Outcome}
-use Rattle.demands.specs.Given.{Allowed}
-
--- an equation with what was lent
-pub settled {ℓ} : {A : Type ℓ} {x y z : A} → x ≡ z → y ≡ z → x ≡ y
-settled e f = e ∙ sym f
-
--- the outcome of a run, and each buffer
-pub run-settled : (job : List ℕ) (before : Lent) {o p : Outcome} {after left : Lent} → Allowed job before o after → Allowed job before p left → (o ≡ p) × (after ≡ left)
-run-settled job before e f =
-    let both = settled e f in
-    (λ i. record { code = both i .code; place = both i .place; taken = both i .taken; triangles = both i .triangles }, ap (λ (r : Result). r .left) both)
 
 -- ---- a search, as `rings::ringless_vertex`
 
-pub found-settled : (a b : Found) {place : Option ℕ} → placeOf a ≡ place → placeOf b ≡ place → a ≡ b
-found-settled (At r) (At s) e f = cc
-found-settled (At r) Nowhere e f = let no : _≡_ {A = ℕ} 0 1 = cc in absurd (omega arith)
-found-settled Nowhere (At s) e f = let no : _≡_ {A = ℕ} 0 1 = cc in absurd (omega arith)
-found-settled Nowhere Nowhere e f = refl
+unfoldable pub foundAt : Option ℕ → Found
+foundAt (some place) = At place
+foundAt none = Nowhere
+
+pub found-is : (a : Found) {place : Option ℕ} → placeOf a ≡ place → a ≡ foundAt place
+unfolding foundAt
+found-is (At r) e = ap foundAt e
+found-is Nowhere e = ap foundAt e
 
 -- ---- `table::check`
 
--- the case that a number and a place stand for
-brokenAt : Verdict → Broken
+unfoldable pub brokenAt : Verdict → Broken
 brokenAt v =
     cond (eqb (v .code) 5) (broken.Row (v .place)) (cond (eqb (v .code) 6) (broken.Order (v .place)) (cond (eqb (v .code) 7) (broken.Triangle (v .place))
     (cond (eqb (v .code) 8) (broken.Edge (v .place)) (cond (eqb (v .code) 9) (broken.Vertex (v .place)) broken.Nothing))))
 
-broken-back : (b : Broken) → brokenAt (closed.verdictOf b) ≡ b
+broken-is : (b : Broken) {v : Verdict} → closed.verdictOf b ≡ v → b ≡ brokenAt v
 unfolding brokenAt
-broken-back broken.Nothing = refl
-broken-back (broken.Row r) = refl
-broken-back (broken.Order r) = refl
-broken-back (broken.Triangle r) = refl
-broken-back (broken.Edge r) = refl
-broken-back (broken.Vertex r) = refl
-
-pub check-settled : (t : Table) (ids : ℕ) (work : List ℕ) (b c : Broken) {left other : List ℕ}
-    → (closed.verdictOf b ≡ firstMatch 5 (tableTests t ids)) × (left ≡ closed.leftOf b (written (neighbourList t) work))
-    → (closed.verdictOf c ≡ firstMatch 5 (tableTests t ids)) × (other ≡ closed.leftOf c (written (neighbourList t) work)) → (b ≡ c) × (left ≡ other)
-check-settled t ids work b c (eb, el) (ec, eo) = (same, el ∙ ap (λ (x : Broken). closed.leftOf x (written (neighbourList t) work)) same ∙ sym eo)
+broken-is b e = sym (back b) ∙ ap brokenAt e
   where
-    same : b ≡ c
-    same = sym (broken-back b) ∙ ap brokenAt (settled eb ec) ∙ broken-back c
+    back : (b : Broken) → brokenAt (closed.verdictOf b) ≡ b
+    back broken.Nothing = refl
+    back (broken.Row r) = refl
+    back (broken.Order r) = refl
+    back (broken.Triangle r) = refl
+    back (broken.Edge r) = refl
+    back (broken.Vertex r) = refl
+
+-- with what is left in the work words
+pub checked : (b : Broken) (work : List ℕ) {v : Verdict} {left : List ℕ} → (closed.verdictOf b ≡ v) × (left ≡ closed.leftOf b work) → (b ≡ brokenAt v) × (left ≡ closed.leftOf (brokenAt v) work)
+checked b work (e, l) = (broken-is b e, l ∙ ap (λ (x : Broken). closed.leftOf x work) (broken-is b e))
 
 -- ---- `marks::check_marks`
 
-unfitAt : Verdict → Unfit
+unfoldable pub unfitAt : Verdict → Unfit
 unfitAt v =
     cond (eqb (v .code) 10) (unfit.Mark (v .place)) (cond (eqb (v .code) 11) (unfit.Outer (v .place)) (cond (eqb (v .code) 12) (unfit.Vertex (v .place)) unfit.Nothing))
 
-unfit-back : (u : Unfit) → unfitAt (start.verdictOf u) ≡ u
+pub unfit-is : (u : Unfit) {v : Verdict} → start.verdictOf u ≡ v → u ≡ unfitAt v
 unfolding unfitAt
-unfit-back unfit.Nothing = refl
-unfit-back (unfit.Mark r) = refl
-unfit-back (unfit.Outer r) = refl
-unfit-back (unfit.Vertex v) = refl
+unfit-is u e = sym (back u) ∙ ap unfitAt e
+  where
+    back : (u : Unfit) → unfitAt (start.verdictOf u) ≡ u
+    back unfit.Nothing = refl
+    back (unfit.Mark r) = refl
+    back (unfit.Outer r) = refl
+    back (unfit.Vertex v) = refl
 
-pub check-marks-settled : (t : Table) (ids : ℕ) (marks : List ℕ) (u w : Unfit) → start.verdictOf u ≡ firstMatch 10 (markTests t ids marks) → start.verdictOf w ≡ firstMatch 10 (markTests t ids marks) → u ≡ w
-check-marks-settled t ids marks u w eu ew = sym (unfit-back u) ∙ ap unfitAt (settled eu ew) ∙ unfit-back w
+-- ---- `round::turn`
+
+pub stops-same : {a b c d : ℕ} → (a ≡ b) × (c ≡ d) → (eqb a b && eqb c d) ≡ true
+stops-same {a} {b} {c} {d} (e, f) = and-both (eq-eqb a b e) (eq-eqb c d f)

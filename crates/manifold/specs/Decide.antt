@@ -1,7 +1,7 @@
 -- The five cases decide: on a closed table with a clean skin they pass exactly if the skin with the row flipped is clean.
 use mathlib.Core.Path.{_≡_, refl, sym, ap, _∙_, subst}
 use mathlib.Core.Logic.{_⊎_, inl, inr, ⊎-elim, _↔_, _≢_}
-use mathlib.Core.Bool.{Bool, true, false, not, true≢false, false≢true}
+use mathlib.Core.Bool.{Bool, true, false, not}
 use Prim.Native.Nat.{ℕ, _≤_, _<_}
 use native.Mathlib.Omega.{arith}
 use Rattle.rules.specs.Below.{count}
@@ -9,11 +9,11 @@ use Rattle.rules.specs.Table.{Table}
 use Rattle.rules.specs.Skin.{onSkin, clean}
 use Rattle.rules.specs.Cases.{passes}
 use Rattle.rules.specs.Laws.Truth.{not-both, is-false, is-true, same-test, same-or-not}
-use Rattle.rules.specs.Laws.Count.{count-zero, count-one, count-two, count-not, count-without, without, is-without}
+use Rattle.rules.specs.Laws.Count.{ExactlyTwo, count-zero, count-one, count-two, count-not, count-without, without, is-without}
 use Rattle.rules.specs.Reading.Rows.{one-corner, Holds}
 use Rattle.rules.specs.Reading.Closed.{Closed}
-use Rattle.rules.specs.Reading.Answers.{OtherSide, Refuses, passes-reads}
-use Rattle.manifold.specs.Facet.{FlipAt, same-mark}
+use Rattle.rules.specs.Reading.Answers.{SomeOther, HoldsEdge, HoldsNeither, Refuses, neither-holds, passes-reads}
+use Rattle.manifold.specs.Facet.{FlipAt, same-mark, not-differs}
 use Rattle.manifold.specs.Ring.{Empty, End}
 use Rattle.manifold.specs.Triangle.{On, Skin, Rings, clean-rings}
 use Rattle.manifold.specs.Sides.{below-four, skin-at-vertex, skin-at-edge}
@@ -32,16 +32,16 @@ module _ (t : Table) (four : t .corners ≡ 4) {idCount : ℕ} (closed : Closed 
 
   -- ---- no row of the other side
 
+  -- row s is on the other side
+  abbrev Other : ℕ → Type 0
+  Other s = inside s ≡ adding
+
   -- no row of the other side has the property
   abbrev NoOther : (ℕ → Type 0) → Type 0
-  NoOther P = (s : ℕ) → s < t .rows → OtherSide adding inside s → P s → ⊥
+  NoOther P = (s : ℕ) → s < t .rows → Other s → P s → ⊥
 
-  other-differs : {s : ℕ} → OtherSide adding inside s → inside r ≢ inside s
-  other-differs {s} o e = not-self adding (sym this-side ∙ e ∙ o)
-    where
-      not-self : (b : Bool) → not b ≢ b
-      not-self true = false≢true
-      not-self false = true≢false
+  other-differs : {s : ℕ} → Other s → inside r ≢ inside s
+  other-differs {s} o e = not-differs adding adding refl (sym this-side ∙ e ∙ o)
 
   -- of the two rows of a skin triangle one is on the other side
   on-other : {P : ℕ → Type 0} → NoOther P → {v a b : ℕ} → ((z : ℕ) → On t v a b z → P z) → Skin t inside v a b → ⊥
@@ -110,18 +110,23 @@ module _ (t : Table) (four : t .corners ≡ 4) {idCount : ℕ} (closed : Closed 
 
   -- ---- by the definition of `rules`
 
-  refused : Rings t inside → Rings t after → Refuses t inside adding r → ⊥
+  -- the edge that is in neither skin triangle has their left-out corners
+  edge : (x : ExactlyTwo (t .corners) Left) → HoldsNeither t Left Other r (x .one) (x .two) ↔ SomeOther t Left Other r (HoldsEdge t Left Other r (x .one) (x .two))
+  edge x = neither-holds t Left Other r (x .one) (x .two) (x .one-below) (x .two-below) (x .differ)
+
+  refused : Rings t inside → Rings t after → Refuses t Left Other r → ⊥
   refused rings after-rings (inl (none, (c, l, (s, ls, o, h)))) =
       case-0 rings (λ c l. none c (below-corners l)) .0 after-rings c (below-four t four l) s ls o h
   refused rings after-rings (inr (inl (x, (s, ls, o, h)))) =
       case-1 rings (below-four t four (x .below)) (x .is) (λ c l. x .only c (below-corners l)) .0 after-rings s ls o h
-  refused rings after-rings (inr (inr (x, (s, ls, o, h)))) =
+  refused rings after-rings (inr (inr (x, held))) =
+      let (s, ls, o, h) = edge x .0 held in
       case-2 rings (below-four t four (x .one-below)) (below-four t four (x .two-below)) (x .differ) (x .one-is) (x .two-is) (λ c l. x .only c (below-corners l)) .0 after-rings s ls o h
 
   f : ℕ
   f = count (t .corners) (onSkin t inside r)
 
-  taken : Rings t inside → (Refuses t inside adding r → ⊥) → Rings t after
+  taken : Rings t inside → (Refuses t Left Other r → ⊥) → Rings t after
   unfolding f
   taken rings free = by-f (same-or-not f 0) (same-or-not f 1) (same-or-not f 2)
     where
@@ -138,7 +143,7 @@ module _ (t : Table) (four : t .corners ≡ 4) {idCount : ℕ} (closed : Closed 
       by-f (inr _) (inr _) (inl two) =
           let x = count-two (t .corners) (onSkin t inside r) two in
           case-2 rings (below-four t four (x .one-below)) (below-four t four (x .two-below)) (x .differ) (x .one-is) (x .two-is) (λ c l. x .only c (below-corners l)) .1
-          (λ s ls o h. free (inr (inr (x, (s, ls, o, h)))))
+          (λ s ls o h. free (inr (inr (x, edge x .1 (s, ls, o, h)))))
       by-f (inr n₀) (inr n₁) (inr n₂) =
           passes-more t four closed flip lr (λ a b la lb na nb.
           ⊎-elim (λ e. e) (λ ne. absurd (too-many n₀ n₁ n₂ (two-pass (t .corners) (λ c. not (onSkin t inside r c)) a b (below-corners la) (below-corners lb)

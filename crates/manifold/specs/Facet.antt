@@ -24,13 +24,13 @@ same-mark false true = inr false≢true
 same-mark false false = inl refl
 
 -- of two marks, one is flipped: they differ after exactly if they were the same
-not-differs : (a b : Bool) → a ≡ b → not a ≢ b
+pub not-differs : (a b : Bool) → a ≡ b → not a ≢ b
 not-differs true true e = false≢true
 not-differs true false e = absurd (true≢false e)
 not-differs false true e = absurd (false≢true e)
 not-differs false false e = true≢false
 
-differs-not : (a b : Bool) → a ≢ b → not a ≡ b
+pub differs-not : (a b : Bool) → a ≢ b → not a ≡ b
 differs-not true true ne = absurd (ne refl)
 differs-not true false ne = refl
 differs-not false true ne = refl

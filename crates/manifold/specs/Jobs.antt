@@ -1,16 +1,26 @@
 -- Demand 3 for accepted jobs: those that `rules`' run gives code 0, whatever is lent.
-use mathlib.Core.Path.{_≡_, _∙_}
+use mathlib.Core.Path.{_≡_, sym, ap, _∙_, subst}
 use mathlib.Core.Logic.{_↔_}
 use mathlib.Core.Bool.{true, false}
 use mathlib.Core.List.{List}
-use Prim.Native.Nat.{ℕ}
-use lib.ListN.{take}
-use Rattle.rules.specs.Proposals.{Proposal, answer, RefusedByCases}
-use Rattle.rules.specs.Job.{Form, Job, jobOf, standing, finalOf, cleanWith, Lent, run}
-use Rattle.rules.specs.Laws.Job.{job-corners}
+use Prim.Native.Nat.{ℕ, _^_, _≤_, _<_}
+use native.Mathlib.Nat.{zero-lt-suc}
+use native.Mathlib.Omega.{arith}
+use lib.ListN.{length, take}
+use Rattle.rules.specs.First.{firstMatch}
+use Rattle.rules.specs.Proposals.{Proposal, insideIn, answer, RefusedByCases}
+use Rattle.rules.specs.Job.{Form, Header, headerOf, wholeLength, Job, jobOf, answersOf, standing, finalOf, cleanWith, Lent, tableTests, sectionTests, accepted, run}
+use Rattle.rules.specs.Made.{withProposals, cutTo, remade}
+use Rattle.rules.specs.Laws.Lists.{Among}
+use Rattle.rules.specs.Laws.First.{match-parts, match-both}
+use Rattle.rules.specs.Laws.Proposals.{answers-length, taken-few}
+use Rattle.rules.specs.Laws.Job.{job-corners, job-rows, job-answers}
+use Rattle.rules.specs.Laws.Made.{cut-header, cut-laid, cut-job, remade-header, remade-laid, remade-job}
 use Rattle.rules.specs.Reading.Closed.{Closed}
-use Rattle.rules.specs.Reading.Codes.{accepted-closed, accepted-marks, accepted-clean, accepted-length}
-use Rattle.manifold.specs.Steps.{PassesEarlier, flipped, Marks, AllTaken, undoing, five-cases, every-step, backwards, all-steps}
+use Rattle.rules.specs.Reading.Skin.{inside-reads}
+use Rattle.rules.specs.Reading.Ring.{clean-plain}
+use Rattle.rules.specs.Reading.Codes.{WithinLimits, LaidOut, RoomShort, marks-fit, run-fits, sections-passed, accepted-closed, accepted-marks, accepted-outer, accepted-clean, accepted-header, accepted-length}
+use Rattle.manifold.specs.Steps.{PassesEarlier, flipped, Marks, AllTaken, undoing, undoing-length, taken-known, outer-kept, five-cases, every-step, backwards, all-steps}
 
 -- After each proposal, and before the first, the far edges at each skin corner form one single ring.
 abbrev pub EveryStep : Job → Type 0
@@ -24,9 +34,17 @@ CasesDecide job = (k : ℕ) (p : Proposal) → PassesEarlier (job .table) (stand
 
 -- The taken proposals, run backwards with add and remove exchanged, are all taken and bring back the start.
 abbrev pub Backwards : Job → Type 0
-Backwards job = AllTaken (job .table) (finalOf job) (undoing (job .table) (job .marks) (job .proposals)) (job .marks)
+Backwards job = AllTaken (job .table) (finalOf job) (undoing (answersOf job) (job .proposals)) (job .marks)
 
-module _ (f : Form) (bytes : List ℕ) (lent : Lent) (corners : f .corners ≡ 4) (accepted : run f bytes lent .code ≡ 0) where
+-- a job's first k proposals
+abbrev pub firstOf : Job → ℕ → Job
+firstOf job k = record { ids = job .ids; table = job .table; marks = job .marks; proposals = take k (job .proposals) }
+
+-- the same rows with other marks and proposals
+abbrev pub withMarks : Job → List ℕ → List Proposal → Job
+withMarks job marks proposals = record { ids = job .ids; table = job .table; marks = marks; proposals = proposals }
+
+module _ (f : Form) (bytes : List ℕ) (lent : Lent) (corners : f .corners ≡ 4) (ran : run f bytes lent .code ≡ 0) where
   abbrev job : Job
   job = jobOf f bytes
 
@@ -34,13 +52,13 @@ module _ (f : Form) (bytes : List ℕ) (lent : Lent) (corners : f .corners ≡ 4
   four = job-corners f bytes ∙ corners
 
   closed : Closed (job .table) (job .ids)
-  closed = accepted-closed f bytes lent accepted
+  closed = accepted-closed f bytes lent ran
 
   start : Marks (job .table) (job .marks)
-  start = record { one-each = accepted-length f bytes lent accepted; binary = accepted-marks f bytes lent accepted }
+  start = record { one-each = accepted-length f bytes lent ran; binary = accepted-marks f bytes lent ran }
 
   clean-start : cleanWith job (job .marks) ≡ true
-  clean-start = accepted-clean f bytes lent accepted
+  clean-start = accepted-clean f bytes lent ran
 
   pub job-every-step : EveryStep (jobOf f bytes)
   job-every-step k = every-step (job .table) four closed (job .marks) start clean-start (job .proposals) k
@@ -52,3 +70,64 @@ module _ (f : Form) (bytes : List ℕ) (lent : Lent) (corners : f .corners ≡ 4
 
   pub job-backwards : Backwards (jobOf f bytes)
   job-backwards = backwards (job .table) four closed (job .marks) start clean-start (job .proposals)
+
+  -- ---- the same as jobs, with whatever buffers that are long enough
+
+  module _ (mode-small : f .mode < 256 ^ 4) (small : wholeLength f (headerOf bytes) < 256 ^ 4) where
+    limits : WithinLimits f (headerOf bytes)
+    limits = accepted-header f bytes lent ran .0
+
+    laid : LaidOut f (headerOf bytes) bytes
+    laid = accepted-header f bytes lent ran .1
+
+    -- The job cut to its first k proposals is run, and gives what it gives for these.
+    pub cut-run : (k : ℕ) → k ≤ headerOf bytes .proposals → (buffers : Lent) → (RoomShort f (withProposals (headerOf bytes) k) buffers → ⊥)
+        → run f (cutTo f k bytes) buffers ≡ accepted (firstOf job k) buffers
+    cut-run k few buffers room =
+        let is = cut-job f bytes limits laid mode-small small k few in
+        run-fits f (cutTo f k bytes) buffers (cut-laid f bytes limits laid mode-small small k few)
+        (λ short. room (subst (λ (h : Header). RoomShort f h buffers) (cut-header f bytes limits laid mode-small small k few) short))
+        (subst (λ (j : Job). firstMatch 5 (sectionTests j) .code ≡ 0) (sym is) (sections-passed f bytes lent ran))
+        ∙ ap (λ (j : Job). accepted j buffers) is
+
+    -- The same rows with the final marks, and the taken ones backwards, are run too.
+    module _ (buffers : Lent) (room : RoomShort f (withProposals (headerOf bytes) (length (undoing (answersOf job) (job .proposals)))) buffers → ⊥) where
+      back : List Proposal
+      back = undoing (answersOf job) (job .proposals)
+
+      final : Marks (job .table) (finalOf job) × (cleanWith job (finalOf job) ≡ true)
+      final = all-steps (job .table) four closed (job .marks) start clean-start (job .proposals)
+
+      each : length (finalOf job) ≡ headerOf bytes .rows
+      each = final .0 .one-each ∙ job-rows f bytes
+
+      few : length back ≤ headerOf bytes .proposals
+      unfolding back
+      few =
+          omega (arith, undoing-length (answersOf job) (job .proposals) (answers-length (job .table) (job .marks) (job .proposals)), taken-few (answersOf job), job-answers f bytes)
+
+      fit : (p : Proposal) → Among p back → (p .row < 256 ^ 4) × (p .kind < 256 ^ 4)
+      unfolding back
+      fit p m =
+          let (row, kind) = taken-known (job .table) (finalOf job) back (job-backwards .0) p m in
+          (omega (arith, row, job-rows f bytes, limits .0 .1 .1), omega (arith, kind))
+
+      sections : firstMatch 5 (sectionTests (withMarks job (finalOf job) back)) .code ≡ 0
+      unfolding tableTests
+      sections =
+          let t = job .table in
+          let passed = match-parts 5 (zero-lt-suc 4) (tableTests t (job .ids)) _ (sections-passed f bytes lent ran) .0 in
+          match-both 5 (zero-lt-suc 4) (tableTests t (job .ids)) _ passed
+          (marks-fit t (job .ids) four (finalOf job) closed (final .0 .binary)
+          (λ r l h i. accepted-outer f bytes lent ran r l h (sym (outer-kept t (job .marks) (job .proposals) r h) ∙ i))
+          (clean-plain t four (insideIn (finalOf job)) (inside-reads (finalOf job)) (job .ids) (closed .paired) .0 (final .1)))
+
+      pub undone-run : run f (remade f (finalOf job) (undoing (answersOf job) (job .proposals)) bytes) buffers
+          ≡ accepted (withMarks job (finalOf job) (undoing (answersOf job) (job .proposals))) buffers
+      unfolding back
+      undone-run =
+          let is = remade-job f bytes limits laid mode-small small (finalOf job) each back few fit in
+          run-fits f (remade f (finalOf job) back bytes) buffers (remade-laid f bytes limits laid mode-small small (finalOf job) each back few)
+          (λ short. room (subst (λ (h : Header). RoomShort f h buffers) (remade-header f bytes limits laid mode-small small (finalOf job) each back few) short))
+          (subst (λ (j : Job). firstMatch 5 (sectionTests j) .code ≡ 0) (sym is) sections)
+          ∙ ap (λ (j : Job). accepted j buffers) is

@@ -2,26 +2,27 @@
 use mathlib.Core.Path.{_≡_, refl, sym, ap, ap₂, _∙_, subst}
 use mathlib.Core.Logic.{_⊎_, inl, inr, ⊎-elim, _↔_, _≢_}
 use mathlib.Core.Bool.{Bool, true, false, not, cond, Bool·not-not}
-use mathlib.Core.List.{List, [], _∷_, _++_, map, reverse, reverse-cons}
-use Prim.Native.Nat.{ℕ, zero, suc, _<_}
+use mathlib.Core.List.{List, [], _∷_, _++_, map, reverse, reverse-cons, List·Memᴰ·not-nil, List·Memᴰ·cases-cons}
+use Prim.Native.Nat.{ℕ, zero, suc, _≤_, _<_}
 use native.Mathlib.Nat.{lt-of-not-le, not-le-of-lt}
 use native.Mathlib.Omega.{arith}
 use lib.Dec.{eqb, lit<}
-use lib.ListN.{length, getD, set, take, replicate, length-append, length-set, replicate-append-replicate}
+use lib.ListN.{length, getD, set, take, drop, replicate, length-append, length-map, length-reverse, length-set, replicate-append-replicate}
 use lib.Seq.{getD-set-same, getD-set-other, set-set, set-getD}
 use borrow.Author.Tests.{eq-eqb, ne-eqb}
 use Rattle.rules.specs.Below.{bit, only}
 use Rattle.rules.specs.Table.{Table}
 use Rattle.rules.specs.Skin.{clean}
 use Rattle.rules.specs.Cases.{passes}
-use Rattle.rules.specs.Proposals.{Proposal, insideIn, adds, answer, RefusedByCases, marksAfter, answersTo, finalMarks}
-use Rattle.rules.specs.Laws.Truth.{not-both, is-true, is-false, same-or-not}
+use Rattle.rules.specs.Proposals.{Proposal, insideIn, adds, answer, RefusedByCases, marksAfter, answersTo, finalMarks, taken}
+use Rattle.rules.specs.Laws.Truth.{not-both, is-true, same-or-not}
+use Rattle.rules.specs.Laws.Lists.{Among, only-length}
 use Rattle.rules.specs.Laws.Proposals.{answers-append, final-append}
 use Rattle.rules.specs.Laws.First.{conditionAt}
 use Rattle.rules.specs.Reading.Rows.{Holds}
 use Rattle.rules.specs.Reading.Closed.{Closed}
-use Rattle.rules.specs.Reading.Answers.{answerConditions, answer-exactly, taken-exactly, passes-reads}
-use Rattle.manifold.specs.Facet.{FlipAt}
+use Rattle.rules.specs.Reading.Answers.{CasesRefuse, answerConditions, other-reads, cases-read, answer-exactly, taken-exactly}
+use Rattle.manifold.specs.Facet.{FlipAt, not-differs, differs-not}
 use Rattle.manifold.specs.Decide.{cases-decide}
 
 -- ---- a flipped mark
@@ -56,46 +57,39 @@ pub record Eligible (t : Table) (marks : List ℕ) (p : Proposal) : Type 0 where
   pub finite : Holds t (p .row) 0 → ⊥
   pub this-side : insideIn marks (p .row) ≡ not (adds p)
 
-adds-is : (p : Proposal) → p .kind ≡ 1 → adds p ≡ true
-unfolding adds
-adds-is p k = eq-eqb (p .kind) 1 k
-
-removes-is : (p : Proposal) → p .kind ≡ 2 → adds p ≡ false
-unfolding adds
-removes-is p k = ne-eqb (p .kind) 1 (λ (e : p .kind ≡ 1). omega arith)
-
 passes-earlier : (t : Table) (marks : List ℕ) (p : Proposal) → PassesEarlier t marks p ↔ Eligible t marks p
 passes-earlier t marks p = (forth, back)
   where
     forth : PassesEarlier t marks p → Eligible t marks p
-    forth off = record { row-below = lt-of-not-le (λ l. off 0 (lit< tt) 0 (l, refl)); kind-known = known; finite = λ h. off 2 (lit< tt) 0 (h, refl); this-side = side known }
+    forth off = record { row-below = lt-of-not-le (λ l. off 0 (lit< tt) 0 (l, refl)); kind-known = known; finite = λ h. off 2 (lit< tt) 0 (h, refl); this-side = sym (differs-not (adds p) (insideIn marks (p .row)) (λ e. off 3 (lit< tt) 0 (other-reads t marks p known (p .row) .0 (sym e), refl))) }
       where
         known : (p .kind ≡ 1) ⊎ (p .kind ≡ 2)
         known = ⊎-elim inl (λ n₁. ⊎-elim inr (λ n₂. absurd (off 1 (lit< tt) 0 ((n₁, n₂), refl))) (same-or-not (p .kind) 2)) (same-or-not (p .kind) 1)
-
-        side : (p .kind ≡ 1) ⊎ (p .kind ≡ 2) → insideIn marks (p .row) ≡ not (adds p)
-        side (inl k) = is-false (insideIn marks (p .row)) (λ e. off 3 (lit< tt) 0 (inl (k, e), refl)) ∙ ap not (sym (adds-is p k))
-        side (inr k) = is-true (insideIn marks (p .row)) (λ e. off 3 (lit< tt) 0 (inr (k, e), refl)) ∙ ap not (sym (removes-is p k))
 
     back : Eligible t marks p → PassesEarlier t marks p
     back x zero l place (r, _) = not-le-of-lt (x .row-below) r
     back x (suc zero) l place ((n₁, n₂), _) = ⊎-elim n₁ n₂ (x .kind-known)
     back x (suc (suc zero)) l place (h, _) = x .finite h
-    back x (suc (suc (suc zero))) l place (inl (k, e), _) = not-both e (x .this-side ∙ ap not (adds-is p k))
-    back x (suc (suc (suc zero))) l place (inr (k, e), _) = not-both (x .this-side ∙ ap not (removes-is p k)) e
+    back x (suc (suc (suc zero))) l place (o, _) = not-differs (adds p) (adds p) refl (sym (x .this-side) ∙ other-reads t marks p (x .kind-known) (p .row) .1 o)
     back x (suc (suc (suc (suc i)))) l place c = absurd (omega arith)
 
 -- ---- answers by the fifth test
 
 module _ (t : Table) (marks : List ℕ) (p : Proposal) where
-  -- a taken proposal passes all tests
-  taken-earlier : answer t marks p ≡ 0 → PassesEarlier t marks p
+  -- a taken proposal passes all tests, and one that the five cases refuse passes those before
+  pub taken-earlier : answer t marks p ≡ 0 → PassesEarlier t marks p
   taken-earlier a i _ = taken-exactly t marks p .0 a i
 
+  pub refused-earlier : RefusedByCases (answer t marks p) → PassesEarlier t marks p
+  refused-earlier a = let (_, x) = answer-exactly t marks p 4 (lit< tt) .0 a in x .none-before
+
   module _ (off : PassesEarlier t marks p) where
+    reads : (passes t (insideIn marks) (adds p) (p .row) ≡ false) ↔ CasesRefuse t marks p
+    reads = cases-read t marks p (passes-earlier t marks p .0 off .kind-known)
+
     taken-passes : (answer t marks p ≡ 0) ↔ (passes t (insideIn marks) (adds p) (p .row) ≡ true)
     taken-passes = (
-      λ a. is-true (passes t (insideIn marks) (adds p) (p .row)) (λ n. taken-exactly t marks p .0 a 4 0 (passes-reads t (insideIn marks) (adds p) (p .row) .0 n, refl)),
+      λ a. is-true (passes t (insideIn marks) (adds p) (p .row)) (λ n. taken-exactly t marks p .0 a 4 0 (reads .0 n, refl)),
       λ q. taken-exactly t marks p .1 (none q),
     )
       where
@@ -104,39 +98,79 @@ module _ (t : Table) (marks : List ℕ) (p : Proposal) where
         none q (suc zero) = off 1 (lit< tt)
         none q (suc (suc zero)) = off 2 (lit< tt)
         none q (suc (suc (suc zero))) = off 3 (lit< tt)
-        none q (suc (suc (suc (suc zero)))) = λ place (x, _). not-both q (passes-reads t (insideIn marks) (adds p) (p .row) .1 x)
+        none q (suc (suc (suc (suc zero)))) = λ place (x, _). not-both q (reads .1 x)
         none q (suc (suc (suc (suc (suc i))))) = λ place c. c
 
     refused-passes : RefusedByCases (answer t marks p) ↔ (passes t (insideIn marks) (adds p) (p .row) ≡ false)
     refused-passes = (
-      λ a. let (_, x) = answer-exactly t marks p 4 (lit< tt) .0 a in passes-reads t (insideIn marks) (adds p) (p .row) .1 (x .holds .0),
-      λ n. answer-exactly t marks p 4 (lit< tt) .1 (0, record { holds = (passes-reads t (insideIn marks) (adds p) (p .row) .0 n, refl); none-before = off }),
+      λ a. let (_, x) = answer-exactly t marks p 4 (lit< tt) .0 a in reads .1 (x .holds .0),
+      λ n. answer-exactly t marks p 4 (lit< tt) .1 (0, record { holds = (reads .0 n, refl); none-before = off }),
     )
 
-  after-taken : answer t marks p ≡ 0 → marksAfter t marks p ≡ flipped marks p
+  -- Only answer 0 changes a mark, the named one.
+  pub after-taken : answer t marks p ≡ 0 → marksAfter t marks p ≡ flipped marks p
   unfolding marksAfter
   after-taken a = rw a
 
-  after-refused : answer t marks p ≢ 0 → marksAfter t marks p ≡ marks
+  pub after-refused : answer t marks p ≢ 0 → marksAfter t marks p ≡ marks
   unfolding marksAfter
   after-refused ne = rw (ne-eqb (answer t marks p) 0 ne)
 
+  -- an outer row keeps its mark
+  outer-stays : (r : ℕ) → Holds t r 0 → getD (marksAfter t marks p) r 0 ≡ getD marks r 0
+  outer-stays r outer =
+      ⊎-elim
+      (λ a. ap (λ (m : List ℕ). getD m r 0) (after-taken a)
+      ∙ getD-set-other marks (p .row) r (bit (adds p)) 0 (λ (e : r ≡ p .row). taken-earlier a 2 (lit< tt) 0 (subst (λ (s : ℕ). Holds t s 0) e outer, refl)))
+      (λ ne. ap (λ (m : List ℕ). getD m r 0) (after-refused ne)) (same-or-not (answer t marks p) 0)
+
+pub outer-kept : (t : Table) (marks : List ℕ) (ps : List Proposal) (r : ℕ) → Holds t r 0 → getD (finalMarks t marks ps) r 0 ≡ getD marks r 0
+unfolding finalMarks
+outer-kept t marks [] r outer = refl
+outer-kept t marks (p ∷ ps) r outer = outer-kept t (marksAfter t marks p) ps r outer ∙ outer-stays t marks p r outer
+
 -- ---- backwards, said
+
+-- those of the proposals whose answer is 0, in order
+unfoldable pub takenOf : List ℕ → List Proposal → List Proposal
+takenOf [] ps = []
+takenOf (a ∷ answers) [] = []
+takenOf (a ∷ answers) (p ∷ ps) = only (eqb a 0) p ++ takenOf answers ps
 
 -- add and remove exchanged
 unfoldable pub exchanged : Proposal → Proposal
 exchanged p = record { row = p .row; kind = cond (adds p) 2 1 }
 
+-- the taken ones, reversed, add and remove exchanged
+unfoldable pub undoing : List ℕ → List Proposal → List Proposal
+undoing answers ps = reverse (map exchanged (takenOf answers ps))
+
+-- what stands behind the answers does not matter
+pub undoing-front : (xs ys : List ℕ) (ps : List Proposal) → length xs ≡ length ps → undoing (xs ++ ys) ps ≡ undoing xs ps
+unfolding undoing takenOf
+undoing-front xs ys ps e = ap (λ (qs : List Proposal). reverse (map exchanged qs)) (front xs ps e)
+  where
+    front : (xs : List ℕ) (ps : List Proposal) → length xs ≡ length ps → takenOf (xs ++ ys) ps ≡ takenOf xs ps
+    front [] [] e = stop ys
+      where
+        stop : (ys : List ℕ) → takenOf ys [] ≡ []
+        stop [] = refl
+        stop (y ∷ ys) = refl
+    front [] (p ∷ ps) e = absurd (omega arith)
+    front (x ∷ xs) [] e = absurd (omega arith)
+    front (x ∷ xs) (p ∷ ps) e = ap (λ (qs : List Proposal). only (eqb x 0) p ++ qs) (front xs ps (omega arith))
+
+-- there are as many as were taken
+pub undoing-length : (answers : List ℕ) (ps : List Proposal) → length answers ≡ length ps → length (undoing answers ps) ≡ taken answers
+unfolding undoing takenOf taken
+undoing-length answers ps e = length-reverse (map exchanged (takenOf answers ps)) ∙ length-map (takenOf answers ps) exchanged ∙ as-many answers ps e
+  where
+    as-many : (answers : List ℕ) (ps : List Proposal) → length answers ≡ length ps → length (takenOf answers ps) ≡ taken answers
+    as-many [] ps e = refl
+    as-many (a ∷ answers) [] e = absurd (omega arith)
+    as-many (a ∷ answers) (p ∷ ps) e = length-append (only (eqb a 0) p) (takenOf answers ps) ∙ omega (arith, only-length (eqb a 0) p, as-many answers ps (omega arith))
+
 module _ (t : Table) where
-  -- those of the proposals that are taken, in order
-  unfoldable pub takenOf : List ℕ → List Proposal → List Proposal
-  takenOf marks [] = []
-  takenOf marks (p ∷ ps) = only (eqb (answer t marks p) 0) p ++ takenOf (marksAfter t marks p) ps
-
-  -- the taken ones, reversed, add and remove exchanged
-  unfoldable pub undoing : List ℕ → List Proposal → List Proposal
-  undoing marks ps = reverse (map exchanged (takenOf marks ps))
-
   -- all of them get answer 0, and leave these marks
   abbrev pub AllTaken : List ℕ → List Proposal → List ℕ → Type 0
   AllTaken marks ps left = (answersTo t marks ps ≡ replicate (length ps) 0) × (finalMarks t marks ps ≡ left)
@@ -150,13 +184,29 @@ module _ (t : Table) where
     final-append t marks xs ys ∙ ap (λ (k : List ℕ). finalMarks t k ys) m ∙ n,
   )
 
-  undoing-taken : (marks : List ℕ) (p : Proposal) (ps : List Proposal) → answer t marks p ≡ 0 → undoing marks (p ∷ ps) ≡ undoing (marksAfter t marks p) ps ++ (exchanged p ∷ [])
-  unfolding undoing takenOf only
-  undoing-taken marks p ps a = ap (λ (b : Bool). reverse (map exchanged (only b p ++ takenOf (marksAfter t marks p) ps))) (eq-eqb (answer t marks p) 0 a) ∙ reverse-cons (exchanged p) (map exchanged (takenOf (marksAfter t marks p) ps))
+  -- proposals that are taken name rows of the table, and a kind
+  pub taken-known : (marks : List ℕ) (ps : List Proposal) → answersTo t marks ps ≡ replicate (length ps) 0
+      → (p : Proposal) → Among p ps → (p .row < t .rows) × (p .kind ≤ 2)
+  unfolding answersTo
+  taken-known marks [] e p m = absurd (List·Memᴰ·not-nil m)
+  taken-known marks (q ∷ ps) e p m =
+      let here = passes-earlier t marks q .0 (taken-earlier t marks q (ap (λ (xs : List ℕ). getD xs 0 0) e)) in
+      ⊎-elim (λ (same : p ≡ q). rw same (here .row-below, ⊎-elim (λ k. omega arith) (λ k. omega arith) (here .kind-known)))
+      (taken-known (marksAfter t marks q) ps (ap (drop 1) e) p) (List·Memᴰ·cases-cons m)
 
-  undoing-refused : (marks : List ℕ) (p : Proposal) (ps : List Proposal) → answer t marks p ≢ 0 → undoing marks (p ∷ ps) ≡ undoing (marksAfter t marks p) ps
-  unfolding undoing takenOf only
-  undoing-refused marks p ps ne = ap (λ (b : Bool). reverse (map exchanged (only b p ++ takenOf (marksAfter t marks p) ps))) (ne-eqb (answer t marks p) 0 ne)
+  abbrev undoingFrom : List ℕ → List Proposal → List Proposal
+  undoingFrom marks ps = undoing (answersTo t marks ps) ps
+
+  undoing-taken : (marks : List ℕ) (p : Proposal) (ps : List Proposal) → answer t marks p ≡ 0 → undoingFrom marks (p ∷ ps) ≡ undoingFrom (marksAfter t marks p) ps ++ (exchanged p ∷ [])
+  unfolding undoing takenOf only answersTo
+  undoing-taken marks p ps a =
+      let rest = takenOf (answersTo t (marksAfter t marks p) ps) ps in
+      ap (λ (b : Bool). reverse (map exchanged (only b p ++ rest))) (eq-eqb (answer t marks p) 0 a) ∙ reverse-cons (exchanged p) (map exchanged rest)
+
+  undoing-refused : (marks : List ℕ) (p : Proposal) (ps : List Proposal) → answer t marks p ≢ 0 → undoingFrom marks (p ∷ ps) ≡ undoingFrom (marksAfter t marks p) ps
+  unfolding undoing takenOf only answersTo
+  undoing-refused marks p ps ne =
+      ap (λ (b : Bool). reverse (map exchanged (only b p ++ takenOf (answersTo t (marksAfter t marks p) ps) ps))) (ne-eqb (answer t marks p) 0 ne)
 
 exchanged-adds : (p : Proposal) → adds (exchanged p) ≡ not (adds p)
 unfolding adds exchanged
@@ -289,7 +339,7 @@ module _ (t : Table) (four : t .corners ≡ 4) {idCount : ℕ} (closed : Closed 
           (subst Clean (sym restored) e)
 
   -- Asked one after the other of the final marks, the taken ones, reversed, add and remove exchanged, all get answer 0 and leave the starting marks.
-  pub backwards : (marks : List ℕ) → Marks t marks → Clean marks → (ps : List Proposal) → AllTaken t (finalMarks t marks ps) (undoing t marks ps) marks
+  pub backwards : (marks : List ℕ) → Marks t marks → Clean marks → (ps : List Proposal) → AllTaken t (finalMarks t marks ps) (undoing (answersTo t marks ps) ps) marks
   unfolding finalMarks takenOf undoing answersTo
   backwards marks m e [] = (refl, refl)
   backwards marks m e (p ∷ ps) =
@@ -297,7 +347,7 @@ module _ (t : Table) (four : t .corners ≡ 4) {idCount : ℕ} (closed : Closed 
       let rest = backwards (marksAfter t marks p) m′ e′ ps in
       ⊎-elim
       (λ a. subst (λ (qs : List Proposal). AllTaken t (finalMarks t (marksAfter t marks p) ps) qs marks) (sym (undoing-taken t marks p ps a))
-      (all-taken-append t (finalMarks t (marksAfter t marks p) ps) (marksAfter t marks p) marks (undoing t (marksAfter t marks p) ps) (exchanged p ∷ []) rest
+      (all-taken-append t (finalMarks t (marksAfter t marks p) ps) (marksAfter t marks p) marks (undoing (answersTo t (marksAfter t marks p) ps) ps) (exchanged p ∷ []) rest
       (subst (λ (k : List ℕ). AllTaken t k (exchanged p ∷ []) marks) (sym (after-taken t marks p a)) (undo-one marks m e p a))))
       (λ ne. subst (λ (qs : List Proposal). AllTaken t (finalMarks t (marksAfter t marks p) ps) qs marks) (sym (undoing-refused t marks p ps ne))
       (rest .0, rest .1 ∙ after-refused t marks p ne)) (same-or-not (answer t marks p) 0)

@@ -12,7 +12,7 @@ use Rattle.rules.specs.Laws.Count.{TheOther}
 use Rattle.rules.specs.Reading.Rows.{Holds}
 use Rattle.rules.specs.Reading.Neighbours.{Side, side-reads}
 use Rattle.rules.specs.Reading.Closed.{Closed, across-is}
-use Rattle.rules.specs.Reading.Skin.{Different, TriangleIds, SkinTriangle, skin-between-sides, three-reads, triangle-rows, triangle-of, skin-far, far-reads}
+use Rattle.rules.specs.Reading.Skin.{as-tested, skin-reads, skin-between-sides, Different, TriangleIds, SkinTriangle, three-reads, triangle-rows, triangle-of, skin-far, far-reads}
 use Rattle.rules.specs.Reading.Ring.{OneRing, ring-map, FarEdge, clean-reads, off-skin-ring}
 use Rattle.manifold.specs.Facet.{FlipAt, flip-back, Split, split-flips, split-kept, split-map}
 use Rattle.manifold.specs.Ring.{Edges, Ring, empty-ring, ring-reads, Flipped}
@@ -86,14 +86,15 @@ module _ (t : Table) where
 
     -- a far edge is one opposite v in a skin triangle
     pub far-skin : (inside : ℕ → Bool) (v a b : ℕ) → (farEdge t inside v a b ≡ true) ↔ Skin inside v a b
-    far-skin inside v a b = (λ e. forth (far-reads t four inside v a b .0 e), λ (d, s). back d s)
+    far-skin inside v a b = (λ e. forth (far-reads t four inside (as-tested inside) v a b .0 e), λ (d, s). back d s)
       where
         corner-below : {c : ℕ} → c < 4 → c < t .corners
         corner-below {c} l = subst (λ (n : ℕ). c < n) (sym four) l
 
-        forth : SkinTriangle t inside v a b → Skin inside v a b
+        forth : SkinTriangle t (λ s. inside s ≡ true) v a b → Skin inside v a b
         forth x =
-            let s = skin-between-sides t inside (closed .paired) (x .row) (x .corner) (x .row-below) (corner-below (x .corner-below)) .0 (x .on-skin) in (
+            let on = skin-reads t inside (as-tested inside) (x .row) (x .corner) .1 (x .on-skin) in
+            let s = skin-between-sides t inside (as-tested inside) (closed .paired) (x .row) (x .corner) (x .row-below) (corner-below (x .corner-below)) .0 on in (
               x .different,
               record {
                 one = s .in-row;
@@ -102,7 +103,7 @@ module _ (t : Table) where
                 two-below = s .out-below;
                 one-on = on-side (x .ids) (x .different) (x .corner-below) (s .in-row) .0 (s .in-holds);
                 two-on = on-side (x .ids) (x .different) (x .corner-below) (s .out-row) .0 (s .out-holds);
-                marks-differ = λ (e : inside (s .in-row) ≡ inside (s .out-row)). not-both (s .is-inside) (e ∙ s .is-outside);
+                marks-differ = λ (e : inside (s .in-row) ≡ inside (s .out-row)). s .is-outside (sym e ∙ s .is-inside);
               },
             )
 
@@ -112,7 +113,7 @@ module _ (t : Table) where
             at : (x y : ℕ) → x < t .rows → y < t .rows → On v a b x → On v a b y → inside x ≡ true → inside y ≡ false → farEdge t inside v a b ≡ true
             at x y lx ly (p, (q, m)) hy ix iy =
                 let (c, lc, ids) = triangle-of t four x v a b d p q m in
-                sym (skin-far t four inside ids d lc) ∙ skin-between-sides t inside (closed .paired) x c lx (corner-below lc) .1 (record {
+                sym (skin-far t four inside ids d lc) ∙ skin-between-sides t inside (as-tested inside) (closed .paired) x c lx (corner-below lc) .1 (record {
                   in-row = x;
                   out-row = y;
                   in-below = lx;
@@ -120,7 +121,7 @@ module _ (t : Table) where
                   in-holds = on-side ids d lc x .1 (p, (q, m));
                   out-holds = on-side ids d lc y .1 hy;
                   is-inside = ix;
-                  is-outside = iy;
+                  is-outside = λ i. not-both i iy;
                 })
 
             go : (i j : Bool) → inside (s .one) ≡ i → inside (s .two) ≡ j → farEdge t inside v a b ≡ true

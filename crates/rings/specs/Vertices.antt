@@ -16,7 +16,7 @@ use Rattle.rules.specs.Proposals.{insideIn}
 use Rattle.rules.specs.Laws.Truth.{true-or-false, same-test, same-or-not, and-first, and-second, and-both}
 use Rattle.rules.specs.Laws.Below.{any-more, any-here, any-some}
 use Rattle.rules.specs.Laws.Places.{row-of, within-row, row-below, place-below}
-use Rattle.rules.specs.Reading.Skin.{skin-vertex-reads}
+use Rattle.rules.specs.Reading.Skin.{as-tested, skin-reads, skin-vertex-reads}
 use Rattle.table.specs.declared.faces.Face.{Face}
 use Rattle.table.specs.Rows.{tableIn, rowsIn}
 use Rattle.table.specs.Faces.{cornerOf, faceOf, corner-below}
@@ -123,23 +123,28 @@ module _ {bytes neighbours marks : List ℕ} {ids : ℕ} (m : Marked bytes neigh
       forth f =
           let (q, l, s) = any-some (4 * rowsIn bytes) at f in
           let (k, lk, ne, is) = face-corner (tableIn bytes) (q / 4) (q % 4) v (mod-lt q (lit< tt)) (in-face (faceOf (tableIn bytes) (q / 4) (q % 4)) v (and-second (onSkin (tableIn bytes) (insideIn marks) (q / 4) (q % 4)) (inFace (faceOf (tableIn bytes) (q / 4) (q % 4)) v) s)) in
-          skin-vertex-reads (tableIn bytes) refl (insideIn marks) (m .ground .paired) v .1 (
-            q / 4,
-            q % 4,
-            k,
-            row-below {m = 4} (lit< tt) (rowsIn bytes) q l,
-            mod-lt q (lit< tt),
-            lk,
-            ne,
-            and-first (onSkin (tableIn bytes) (insideIn marks) (q / 4) (q % 4)) (inFace (faceOf (tableIn bytes) (q / 4) (q % 4)) v) s,
-            is,
-          )
+          skin-vertex-reads (tableIn bytes) refl (insideIn marks) (as-tested (insideIn marks)) (m .ground .paired) v .1 (record {
+            row = q / 4;
+            corner = q % 4;
+            at = k;
+            row-below = row-below {m = 4} (lit< tt) (rowsIn bytes) q l;
+            corner-below = mod-lt q (lit< tt);
+            at-below = lk;
+            stays = ne;
+            on-skin = skin-reads (tableIn bytes) (insideIn marks) (as-tested (insideIn marks)) (q / 4) (q % 4) .0
+                (and-first (onSkin (tableIn bytes) (insideIn marks) (q / 4) (q % 4)) (inFace (faceOf (tableIn bytes) (q / 4) (q % 4)) v) s);
+            is = is;
+          })
 
       back : skinVertex (tableIn bytes) (insideIn marks) ids v ≡ true → any (4 * rowsIn bytes) at ≡ true
       back f =
-          let (r, c, k, lr, lc, lk, ne, on, is) = skin-vertex-reads (tableIn bytes) refl (insideIn marks) (m .ground .paired) v .0 f in
-          any-here (4 * rowsIn bytes) at (4 * r + c) (place-below {m = 4} (lit< tt) (rowsIn bytes) r c lr lc)
-          (rw (row-of {m = 4} (lit< tt) r c lc, within-row {m = 4} (lit< tt) r c lc) (and-both on (face-in (faceOf (tableIn bytes) r c) v (subst (InFace (faceOf (tableIn bytes) r c)) is (corner-of-face (tableIn bytes) r c k lc lk ne)))))
+          let x = skin-vertex-reads (tableIn bytes) refl (insideIn marks) (as-tested (insideIn marks)) (m .ground .paired) v .0 f in
+          let r = x .row in
+          let c = x .corner in
+          let lc = x .corner-below in
+          let on = skin-reads (tableIn bytes) (insideIn marks) (as-tested (insideIn marks)) r c .1 (x .on-skin) in
+          any-here (4 * rowsIn bytes) at (4 * r + c) (place-below {m = 4} (lit< tt) (rowsIn bytes) r c (x .row-below) lc)
+          (rw (row-of {m = 4} (lit< tt) r c lc, within-row {m = 4} (lit< tt) r c lc) (and-both on (face-in (faceOf (tableIn bytes) r c) v (subst (InFace (faceOf (tableIn bytes) r c)) (x .is) (corner-of-face (tableIn bytes) r c (x .at) lc (x .at-below) (x .stays))))))
 
 pub no-flags : NoFlags (replicate mostIds 0)
 no-flags = (length-replicate {A = ℕ} mostIds 0, none)

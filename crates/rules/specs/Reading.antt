@@ -9,6 +9,7 @@
 --     Answers     the tests of a proposal and the five cases
 --     Codes       each code exactly in its case, and what it leaves
 --     Room        at most 2N triangles, each once
+--     Listing     the skin list: the triangles between the sides, from either row
 --     Small       how large what a run gives can be
 --     File        where an id, a mark and a proposal stand in the job file
 pub mod Rows
@@ -21,5 +22,6 @@ pub mod Ring
 pub mod Answers
 pub mod Codes
 pub mod Room
+pub mod Listing
 pub mod Small
 pub mod File

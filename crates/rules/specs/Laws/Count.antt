@@ -162,7 +162,7 @@ pub record ExactlyOne (n : ℕ) (P : ℕ → Type 0) : Type 0 where
   pub is : P one
   pub only : (k : ℕ) → k < n → P k → k ≡ one
 
-pub one-map : {n : ℕ} {P Q : ℕ → Type 0} → ((k : ℕ) → P k → Q k) → ((k : ℕ) → Q k → P k) → ExactlyOne n P → ExactlyOne n Q
+unfoldable pub one-map : {n : ℕ} {P Q : ℕ → Type 0} → ((k : ℕ) → P k → Q k) → ((k : ℕ) → Q k → P k) → ExactlyOne n P → ExactlyOne n Q
 one-map forth back x = record { one = x .one; below = x .below; is = forth (x .one) (x .is); only = λ k l q. x .only k l (back k q) }
 
 pub count-one : (n : ℕ) (p : ℕ → Bool) → count n p ≡ 1 → ExactlyOne n (λ k. p k ≡ true)
@@ -236,7 +236,7 @@ two-of-other {n} {k} {P} l p o = record {
   only = λ j m q. ⊎-elim inl (λ ne. inr (o .only j m q ne)) (same-or-not j k);
 }
 
-pub two-map : {n : ℕ} {P Q : ℕ → Type 0} → ((k : ℕ) → P k → Q k) → ((k : ℕ) → Q k → P k) → ExactlyTwo n P → ExactlyTwo n Q
+unfoldable pub two-map : {n : ℕ} {P Q : ℕ → Type 0} → ((k : ℕ) → P k → Q k) → ((k : ℕ) → Q k → P k) → ExactlyTwo n P → ExactlyTwo n Q
 two-map forth back x = record {
   one = x .one;
   two = x .two;

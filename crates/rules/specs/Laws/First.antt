@@ -238,3 +238,6 @@ pub match-parts : (code : ℕ) → 0 < code → (xs ys : List Test) → firstMat
 match-parts code pos xs ys e =
     ⊎-elim (λ z. (z, ap (λ (v : Verdict). v .code) (sym (match-append code pos xs ys z)) ∙ e))
     (λ ne. absurd (ne (ap (λ (v : Verdict). v .code) (sym (match-front code xs ys ne)) ∙ e))) (same-or-not (firstMatch code xs .code) 0)
+
+pub match-both : (code : ℕ) → 0 < code → (xs ys : List Test) → firstMatch code xs .code ≡ 0 → firstMatch (code + length xs) ys .code ≡ 0 → firstMatch code (xs ++ ys) .code ≡ 0
+match-both code pos xs ys front back = ap (λ (v : Verdict). v .code) (match-append code pos xs ys front) ∙ back

@@ -1,16 +1,17 @@
 -- Laws of the fixed tables: each is one test that antt computes over the whole table, and a lemma that turns it into the rule at each entry.
 use mathlib.Core.Path.{_≡_, refl, sym, ap, _∙_}
-use mathlib.Core.Logic.{⊎-elim, _↔_, _≢_}
-use mathlib.Core.Bool.{Bool, true, false, not, _&&_, _||_, Bool·beq}
+use mathlib.Core.Logic.{_⊎_, inl, inr, ⊎-elim, _↔_, _≢_}
+use mathlib.Core.Bool.{Bool, true, false, not, _&&_, _||_}
 use mathlib.Core.List.{List, [], _∷_, List·Memᴰ·head, List·Memᴰ·tail, List·Memᴰ·not-nil, List·Memᴰ·cases-cons}
-use Prim.Native.Nat.{ℕ, _-_, _<_}
+use Prim.Native.Nat.{ℕ, zero, suc, _-_, _<_}
 use native.Mathlib.Nat.{lt-trans}
-use lib.Dec.{eqb, ltb}
+use native.Mathlib.Omega.{arith}
+use lib.Dec.{eqb, ltb, lit<}
 use lib.ListN.{getD}
 use borrow.Author.Tests.{eqb-true, eq-eqb, eqb-false, ne-eqb, ltb-true, lt-ltb, not-true}
 use Rattle.rules.specs.Below.{all, bit, sum, count, gather, tabulate, only, pick}
 use Rattle.rules.specs.Shape.{facet, triangleTable, edgeTable, oppositeTable}
-use Rattle.rules.specs.Laws.Truth.{not-both, and-first, and-second, and-both, or-either, or-first, or-second, or-no-first, or-no-second}
+use Rattle.rules.specs.Laws.Truth.{not-both, and-first, and-second, and-both, or-either, or-first, or-second, or-no-first, or-no-second, same-or-not}
 use Rattle.rules.specs.Laws.Below.{all-each}
 use Rattle.rules.specs.Laws.Count.{ExactlyOne, ExactlyTwo, one-map, two-map, count-one, count-two}
 use Rattle.rules.specs.Laws.Lists.{Among}
@@ -74,6 +75,27 @@ in-faces face (x ∷ xs) t =
 pub facet-table : tabulate 4 (facet 4) ≡ triangleTable
 unfolding tabulate gather facet pick only triangleTable
 facet-table = refl
+
+-- three corners that rise, each other than c
+abbrev pub ThreeOthers : ℕ → ℕ → ℕ → ℕ → Type 0
+ThreeOthers c i j k = (i ≢ c) × (j ≢ c) × (k ≢ c)
+
+pub facet-three : (c : ℕ) → c < 4 → (i : ℕ) × (j : ℕ) × (k : ℕ) × (i < j) × (j < k) × (k < 4) × ThreeOthers c i j k × (facet 4 c ≡ i ∷ j ∷ k ∷ [])
+unfolding facet pick gather only
+facet-three zero l = (1, 2, 3, lit< tt, lit< tt, lit< tt, (λ e. omega arith, λ e. omega arith, λ e. omega arith), refl)
+facet-three (suc zero) l = (0, 2, 3, lit< tt, lit< tt, lit< tt, (λ e. omega arith, λ e. omega arith, λ e. omega arith), refl)
+facet-three (suc (suc zero)) l = (0, 1, 3, lit< tt, lit< tt, lit< tt, (λ e. omega arith, λ e. omega arith, λ e. omega arith), refl)
+facet-three (suc (suc (suc zero))) l = (0, 1, 2, lit< tt, lit< tt, lit< tt, (λ e. omega arith, λ e. omega arith, λ e. omega arith), refl)
+facet-three (suc (suc (suc (suc c)))) l = absurd (omega arith)
+
+-- and there is only one way to leave out c
+pub three-facet : (c i j k : ℕ) → c < 4 → i < j → j < k → k < 4 → i ≢ c → j ≢ c → k ≢ c → facet 4 c ≡ i ∷ j ∷ k ∷ []
+unfolding facet pick gather only
+three-facet zero i j k lc ij jk k4 ni nj nk = let e : 1 ≡ i = omega (arith, ni) in let f : 2 ≡ j = omega arith in let g : 3 ≡ k = omega arith in rw (e, f, g)
+three-facet (suc zero) i j k lc ij jk k4 ni nj nk = let e : 0 ≡ i = omega (arith, ni) in let f : 2 ≡ j = omega (arith, nj) in let g : 3 ≡ k = omega arith in rw (e, f, g)
+three-facet (suc (suc zero)) i j k lc ij jk k4 ni nj nk = let e : 0 ≡ i = omega arith in let f : 1 ≡ j = omega (arith, nj) in let g : 3 ≡ k = omega (arith, nk) in rw (e, f, g)
+three-facet (suc (suc (suc zero))) i j k lc ij jk k4 ni nj nk = let e : 0 ≡ i = omega (arith, nk) in let f : 1 ≡ j = omega (arith, nk) in let g : 2 ≡ k = omega (arith, nk) in rw (e, f, g)
+three-facet (suc (suc (suc (suc c)))) i j k lc ij jk k4 ni nj nk = absurd (omega arith)
 
 -- ---- edges
 
@@ -145,45 +167,28 @@ module _ (k : ℕ) (l : k < 6) where
 
 -- ---- two triangles of a row
 
--- the corners of the edge are corners of the triangle that leaves out c
-unfoldable pub inTriangle : ℕ → List ℕ → Bool
-inTriangle c face = every (λ k. onFace k (facet 4 c)) face
+-- the edge of corners i and j is in the triangle that leaves out corner c
+abbrev pub InTriangle : ℕ → ℕ → ℕ → Type 0
+InTriangle c i j = (i ≢ c) × (j ≢ c)
 
-neitherTest : ℕ → ℕ → ℕ → Bool
-neitherTest c d k = not (ltb c d) || Bool·beq (not (inTriangle c (edgeAt k)) && not (inTriangle d (edgeAt k))) (sameFace (edgeAt k) (c ∷ d ∷ []))
-
-neither-passes : all 4 (λ c. all 4 (λ d. all 6 (neitherTest c d))) ≡ true
-unfolding all neitherTest edgeAt edgeTable inTriangle facet pick gather only
-neither-passes = refl
-
--- The edges that are in neither of the triangles that leave out c and d: the one with the corners c and d.
-pub in-neither : (c d k : ℕ) → c < d → d < 4 → k < 6
-    → ((inTriangle c (edgeAt k) ≡ false) × (inTriangle d (edgeAt k) ≡ false)) ↔ (edgeAt k ≡ c ∷ d ∷ [])
-unfolding neitherTest
-in-neither c d k l m n = (
-  λ (p, q). same-face (edgeAt k) (c ∷ d ∷ []) (sym agree ∙ rw (p, q)),
-  λ e. let both = agree ∙ is-same-face (edgeAt k) (c ∷ d ∷ []) e in (
-    not-true (inTriangle c (edgeAt k)) (and-first (not (inTriangle c (edgeAt k))) (not (inTriangle d (edgeAt k))) both),
-    not-true (inTriangle d (edgeAt k)) (and-second (not (inTriangle c (edgeAt k))) (not (inTriangle d (edgeAt k))) both),
-  ),
-)
+-- The edge that is in neither of the triangles that leave out c and d: the one with the corners c and d.
+pub in-neither : (c d i j : ℕ) → c ≢ d → i ≢ j
+    → ((InTriangle c i j → ⊥) × (InTriangle d i j → ⊥)) ↔ (((i ≡ c) × (j ≡ d)) ⊎ ((i ≡ d) × (j ≡ c)))
+in-neither c d i j cd ij = (λ (p, q). both (corner c p) (corner d q), back)
   where
-    passed : neitherTest c d k ≡ true
-    passed =
-        all-each 6 (neitherTest c d)
-        (all-each 4 (λ d. all 6 (neitherTest c d)) (all-each 4 (λ c. all 4 (λ d. all 6 (neitherTest c d))) neither-passes c (lt-trans l m)) d m) k n
+    -- one of its corners is left out
+    corner : (c : ℕ) → (InTriangle c i j → ⊥) → (i ≡ c) ⊎ (j ≡ c)
+    corner c off = ⊎-elim inl (λ ni. ⊎-elim inr (λ nj. absurd (off (ni, nj))) (same-or-not j c)) (same-or-not i c)
 
-    beq-same : (a b : Bool) → Bool·beq a b ≡ true → a ≡ b
-    beq-same true true e = refl
-    beq-same true false e = sym e
-    beq-same false true e = e
-    beq-same false false e = refl
+    both : (i ≡ c) ⊎ (j ≡ c) → (i ≡ d) ⊎ (j ≡ d) → ((i ≡ c) × (j ≡ d)) ⊎ ((i ≡ d) × (j ≡ c))
+    both (inl e) (inl f) = absurd (cd (sym e ∙ f))
+    both (inl e) (inr f) = inl (e, f)
+    both (inr e) (inl f) = inr (f, e)
+    both (inr e) (inr f) = absurd (cd (sym e ∙ f))
 
-    agree : (not (inTriangle c (edgeAt k)) && not (inTriangle d (edgeAt k))) ≡ sameFace (edgeAt k) (c ∷ d ∷ [])
-    agree =
-        ⊎-elim (λ off. absurd (not-both (lt-ltb c d l) (not-true (ltb c d) off)))
-        (beq-same (not (inTriangle c (edgeAt k)) && not (inTriangle d (edgeAt k))) (sameFace (edgeAt k) (c ∷ d ∷ [])))
-        (or-either (not (ltb c d)) (Bool·beq (not (inTriangle c (edgeAt k)) && not (inTriangle d (edgeAt k))) (sameFace (edgeAt k) (c ∷ d ∷ []))) passed)
+    back : ((i ≡ c) × (j ≡ d)) ⊎ ((i ≡ d) × (j ≡ c)) → (InTriangle c i j → ⊥) × (InTriangle d i j → ⊥)
+    back (inl (e, f)) = (λ (n, _). n e, λ (_, n). n f)
+    back (inr (e, f)) = (λ (_, n). n f, λ (n, _). n e)
 
 -- ---- the corners that are left
 

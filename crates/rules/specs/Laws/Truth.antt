@@ -76,6 +76,9 @@ pub lower-same-higher : (m n : ℕ) → (m < n) ⊎ (m ≡ n) ⊎ (n < m)
 lower-same-higher m n =
     ⊎-elim (λ h. inl (ltb-true m n h)) (λ h. inr (⊎-elim inl (λ ne. inr (omega (arith, ltb-false m n h, ne))) (same-or-not m n))) (true-or-false (ltb m n))
 
+pub lower-or-higher : (m n : ℕ) → (m ≡ n → ⊥) → (m < n) ⊎ (n < m)
+lower-or-higher m n ne = ⊎-elim inl (⊎-elim (λ e. absurd (ne e)) inr) (lower-same-higher m n)
+
 pub eqb-back : (a b : ℕ) → eqb a b ≡ eqb b a
 eqb-back a b = same-test (eqb a b) (eqb b a) (λ e. eq-eqb b a (sym (eqb-true a b e))) (λ e. eq-eqb a b (sym (eqb-true b a e)))
 

@@ -1,45 +1,40 @@
 -- The five cases and the answers: each answer is given exactly if it applies and none before it does.
 use mathlib.Core.Path.{_≡_, refl, sym, ap, _∙_}
-use mathlib.Core.Logic.{_⊎_, inl, inr, ⊎-elim, _↔_, Iff·trans, _≢_}
+use mathlib.Core.Logic.{_⊎_, inl, inr, ⊎-elim, _↔_, Iff·symm, Iff·trans, _≢_, Ne·symm}
 use mathlib.Core.Bool.{Bool, true, false, not, _&&_, _||_}
+use mathlib.Core.Option.{none}
 use mathlib.Core.List.{List, [], _∷_, List·Memᴰ·head, List·Memᴰ·eq-of-singleton}
 use Prim.Native.Nat.{ℕ, _+_, _≤_, _<_}
 use native.Mathlib.Nat.{zero-lt-suc}
 use native.Mathlib.Omega.{arith}
 use lib.Dec.{eqb, ltb}
-use borrow.Author.Tests.{eqb-true, eq-eqb, eqb-false, ne-eqb, ltb-false, le-ltb, not-true, not-false}
+use borrow.Author.Tests.{eq-eqb, eqb-false, ne-eqb, ltb-false, le-ltb, not-true, not-false}
 use Rattle.rules.specs.Below.{any, all, count, pick}
 use Rattle.rules.specs.Table.{Table, outer, holdsFace}
 use Rattle.rules.specs.Skin.{onSkin}
 use Rattle.rules.specs.Cases.{otherSide, free, passes}
+use Rattle.rules.specs.First.{given}
 use Rattle.rules.specs.Proposals.{Proposal, insideIn, adds, answerTests, answer}
-use Rattle.rules.specs.Laws.Truth.{not-both, is-false, and-first, and-second, and-both, or-either, or-no-first, or-no-second, same-or-not}
+use Rattle.rules.specs.Laws.Truth.{not-both, is-false, and-first, and-second, and-both, or-reads, eqb-reads, or-no-first, or-no-second, same-or-not, lower-or-higher}
 use Rattle.rules.specs.Laws.Below.{any-here, any-some, all-fails, fails-all}
-use Rattle.rules.specs.Laws.Count.{count-zero, none-count, ExactlyOne, ExactlyTwo, count-one, one-count, count-two, two-count}
+use Rattle.rules.specs.Laws.Count.{count-zero, none-count, ExactlyOne, one-map, ExactlyTwo, two-map, count-one, one-count, count-two, two-count}
 use Rattle.rules.specs.Laws.Lists.{in-pick, pick-in}
 use Rattle.rules.specs.Laws.First.{Reads, FirstOf, conditionAt, code-reads, none-reads, given-reads, given-none}
+use Rattle.rules.specs.Laws.Shape.{InTriangle, in-neither}
 use Rattle.rules.specs.Reading.Rows.{Holds, holds-reads}
 use Rattle.rules.specs.Reading.Closed.{HoldsFace, holds-face-reads}
+use Rattle.rules.specs.Reading.Skin.{Inside, inside-reads, OnSkin, skin-reads}
 
 -- ---- the five cases
 
--- row s is on the other side: for an add it is inside, for a remove it is outside
-abbrev pub OtherSide : Bool → (ℕ → Bool) → ℕ → Type 0
-OtherSide adding inside s = inside s ≡ adding
-
-other-side-reads : (adding : Bool) (inside : ℕ → Bool) (s : ℕ) → (otherSide adding inside s ≡ true) ↔ OtherSide adding inside s
-unfolding otherSide
-other-side-reads true inside s = (λ e. e, λ e. e)
-other-side-reads false inside s = (λ e. not-true (inside s) e, λ e. ap not e)
-
-module _ (t : Table) (inside : ℕ → Bool) (adding : Bool) (r : ℕ) where
+-- `Skin c`: the triangle of row r that leaves out corner c is on the skin. `Other s`: row s is on the other side.
+module _ (t : Table) (Skin Other : ℕ → Type 0) (r : ℕ) where
   -- some row of the other side
   abbrev pub SomeOther : (ℕ → Type 0) → Type 0
-  SomeOther P = (s : ℕ) × (s < t .rows) × OtherSide adding inside s × P s
+  SomeOther P = (s : ℕ) × (s < t .rows) × Other s × P s
 
-  -- the triangle that leaves out corner c is on the skin
-  abbrev pub Skin : ℕ → Type 0
-  Skin c = onSkin t inside r c ≡ true
+  abbrev pub HoldsEdge : ℕ → ℕ → ℕ → Type 0
+  HoldsEdge i j s = Holds t s (t .id r i) × Holds t s (t .id r j)
 
   -- f = 0: a row of the other side holds one of the vertices
   abbrev pub Refuses0 : Type 0
@@ -49,14 +44,55 @@ module _ (t : Table) (inside : ℕ → Bool) (adding : Bool) (r : ℕ) where
   abbrev pub Refuses1 : Type 0
   Refuses1 = (x : ExactlyOne (t .corners) Skin) × SomeOther (λ s. Holds t s (t .id r (x .one)))
 
-  -- f = 2: it holds the edge of the two left-out corners, which is in neither skin triangle (`Laws.Shape.in-neither`)
+  -- it holds the one edge that is in neither of the triangles that leave out c and d
+  abbrev pub HoldsNeither : ℕ → ℕ → Type 0
+  HoldsNeither c d =
+      (i : ℕ) × (j : ℕ) × (i < j) × (j < t .corners) × (InTriangle c i j → ⊥) × (InTriangle d i j → ⊥) × SomeOther (HoldsEdge i j)
+
+  -- f = 2: it holds the one edge that is in neither skin triangle
   abbrev pub Refuses2 : Type 0
-  Refuses2 = (x : ExactlyTwo (t .corners) Skin) × SomeOther (λ s. Holds t s (t .id r (x .one)) × Holds t s (t .id r (x .two)))
+  Refuses2 = (x : ExactlyTwo (t .corners) Skin) × HoldsNeither (x .one) (x .two)
 
   abbrev pub Refuses : Type 0
   Refuses = Refuses0 ⊎ (Refuses1 ⊎ Refuses2)
 
-  free-reads : (face : List ℕ) → (free t (otherSide adding inside) r face ≡ false) ↔ SomeOther (HoldsFace t r face)
+  -- that edge has the two left-out corners
+  pub neither-holds : (c d : ℕ) → c < t .corners → d < t .corners → c ≢ d → HoldsNeither c d ↔ SomeOther (HoldsEdge c d)
+  neither-holds c d lc ld ne = (forth, back)
+    where
+      forth : HoldsNeither c d → SomeOther (HoldsEdge c d)
+      forth (i, j, l, m, p, q, (s, ls, o, (hi, hj))) =
+          ⊎-elim (λ (e, f). (s, ls, o, (rw e at hi, rw f at hj))) (λ (e, f). (s, ls, o, (rw f at hj, rw e at hi)))
+          (in-neither c d i j ne (λ (e : i ≡ j). omega arith) .0 (p, q))
+
+      back : SomeOther (HoldsEdge c d) → HoldsNeither c d
+      back (s, ls, o, (hc, hd)) =
+          ⊎-elim (λ (l : c < d). let (p, q) = in-neither c d c d ne ne .1 (inl (refl, refl)) in (c, d, l, ld, p, q, (s, ls, o, (hc, hd))))
+          (λ (l : d < c). let (p, q) = in-neither c d d c ne (Ne·symm ne) .1 (inr (refl, refl)) in (d, c, l, lc, p, q, (s, ls, o, (hd, hc)))) (lower-or-higher c d ne)
+
+-- the same skin triangles and the same other side
+pub refuses-map : (t : Table) (r : ℕ) {S S′ O O′ : ℕ → Type 0} → ((c : ℕ) → S c ↔ S′ c) → ((s : ℕ) → O s ↔ O′ s) → Refuses t S O r → Refuses t S′ O′ r
+unfolding one-map two-map
+refuses-map t r skin other (inl (clear, (c, l, (s, ls, o, h)))) = inl (λ c l x. clear c l (skin c .1 x), (c, l, (s, ls, other s .0 o, h)))
+refuses-map t r skin other (inr (inl (x, (s, ls, o, h)))) = inr (inl (one-map (λ c. skin c .0) (λ c. skin c .1) x, (s, ls, other s .0 o, h)))
+refuses-map t r skin other (inr (inr (x, (i, j, l, m, p, q, (s, ls, o, h))))) =
+    inr (inr (two-map (λ c. skin c .0) (λ c. skin c .1) x, (i, j, l, m, p, q, (s, ls, other s .0 o, h))))
+
+-- ---- the computed test says so
+
+other-side-reads : (adding : Bool) (inside : ℕ → Bool) (s : ℕ) → (otherSide adding inside s ≡ true) ↔ (inside s ≡ adding)
+unfolding otherSide
+other-side-reads true inside s = (λ e. e, λ e. e)
+other-side-reads false inside s = (λ e. not-true (inside s) e, λ e. ap not e)
+
+module _ (t : Table) (inside : ℕ → Bool) (adding : Bool) (r : ℕ) where
+  abbrev Skin : ℕ → Type 0
+  Skin c = onSkin t inside r c ≡ true
+
+  abbrev Other : ℕ → Type 0
+  Other s = inside s ≡ adding
+
+  free-reads : (face : List ℕ) → (free t (otherSide adding inside) r face ≡ false) ↔ SomeOther t Skin Other r (HoldsFace t r face)
   unfolding free
   free-reads face = (
     λ e.
@@ -88,7 +124,7 @@ module _ (t : Table) (inside : ℕ → Bool) (adding : Bool) (r : ℕ) where
     λ h c m. let (l, e) = pick-in (t .corners) (onSkin t inside r) c m in h c l e,
   )
 
-  case0 : f ≡ 0 → (passes t inside adding r ≡ false) ↔ Refuses0
+  case0 : f ≡ 0 → (passes t inside adding r ≡ false) ↔ Refuses0 t Skin Other r
   unfolding passes f
   case0 z = (
     λ e.
@@ -103,7 +139,7 @@ module _ (t : Table) (inside : ℕ → Bool) (adding : Bool) (r : ℕ) where
       value : passes t inside adding r ≡ all (t .corners) (λ c. free t (otherSide adding inside) r (c ∷ []))
       value = rw z
 
-  case1 : f ≡ 1 → (passes t inside adding r ≡ false) ↔ Refuses1
+  case1 : f ≡ 1 → (passes t inside adding r ≡ false) ↔ Refuses1 t Skin Other r
   unfolding passes f leftOut
   case1 one = (
     λ e.
@@ -116,26 +152,29 @@ module _ (t : Table) (inside : ℕ → Bool) (adding : Bool) (r : ℕ) where
       value : passes t inside adding r ≡ free t (otherSide adding inside) r leftOut
       value = rw one
 
-  case2 : f ≡ 2 → (passes t inside adding r ≡ false) ↔ Refuses2
+  case2 : f ≡ 2 → (passes t inside adding r ≡ false) ↔ Refuses2 t Skin Other r
   unfolding passes f leftOut
   case2 two = (
     λ e.
         let x = count-two (t .corners) (onSkin t inside r) two in
         let (s, l, o, h) = free-reads leftOut .0 (sym value ∙ e) in
-        (x, (s, l, o, (holds-left-out s .0 h (x .one) (x .one-below) (x .one-is), holds-left-out s .0 h (x .two) (x .two-below) (x .two-is)))),
-    λ (x, (s, l, o, (h, k))).
+        (x, edge x .1 (s, l, o, (holds-left-out s .0 h (x .one) (x .one-below) (x .one-is), holds-left-out s .0 h (x .two) (x .two-below) (x .two-is)))),
+    λ (x, held). let (s, l, o, (h, k)) = edge x .0 held in
         value ∙ free-reads leftOut .1 (s, l, o, holds-left-out s .1 (λ c m q. ⊎-elim (λ (e : c ≡ x .one). rw e h) (λ (e : c ≡ x .two). rw e k) (x .only c m q))),
   )
     where
       value : passes t inside adding r ≡ free t (otherSide adding inside) r leftOut
       value = rw two
 
+      edge : (x : ExactlyTwo (t .corners) Skin) → HoldsNeither t Skin Other r (x .one) (x .two) ↔ SomeOther t Skin Other r (HoldsEdge t Skin Other r (x .one) (x .two))
+      edge x = neither-holds t Skin Other r (x .one) (x .two) (x .one-below) (x .two-below) (x .differ)
+
   -- f = 3 and f = 4 pass
   case-more : f ≢ 0 → f ≢ 1 → f ≢ 2 → passes t inside adding r ≡ true
   unfolding passes f
   case-more n₀ n₁ n₂ = rw (ne-eqb f 0 n₀, ne-eqb f 1 n₁, ne-eqb f 2 n₂)
 
-  pub passes-reads : (passes t inside adding r ≡ false) ↔ Refuses
+  pub passes-reads : (passes t inside adding r ≡ false) ↔ Refuses t Skin Other r
   unfolding f
   passes-reads = (
     λ e. ⊎-elim (λ z. inl (case0 z .0 e)) (λ n₀. ⊎-elim (λ o. inr (inl (case1 o .0 e))) (λ n₁. ⊎-elim (λ w. inr (inr (case2 w .0 e)))
@@ -143,14 +182,22 @@ module _ (t : Table) (inside : ℕ → Bool) (adding : Bool) (r : ℕ) where
     back,
   )
     where
-      back : Refuses → passes t inside adding r ≡ false
+      back : Refuses t Skin Other r → passes t inside adding r ≡ false
       back (inl x) = case0 (none-count (t .corners) (onSkin t inside r) (λ c l. is-false (onSkin t inside r c) (x .0 c l))) .1 x
       back (inr (inl x)) = case1 (one-count (t .corners) (onSkin t inside r) (x .0)) .1 x
       back (inr (inr x)) = case2 (two-count (t .corners) (onSkin t inside r) (x .0)) .1 x
 
 -- ---- the answers
 
+-- row s is on the other side: for an add, kind 1, it is inside; for a remove, kind 2, it is outside
+abbrev pub OtherSide : ℕ → (ℕ → Type 0) → ℕ → Type 0
+OtherSide kind In s = ((kind ≡ 1) × In s) ⊎ ((kind ≡ 2) × (In s → ⊥))
+
 module _ (t : Table) (marks : List ℕ) (p : Proposal) where
+  -- the five cases refuse
+  abbrev pub CasesRefuse : Type 0
+  CasesRefuse = Refuses t (OnSkin t (Inside marks) (p .row)) (OtherSide (p .kind) (Inside marks)) (p .row)
+
   -- when each of the answers 1 to 5 applies. (The place of each is 0.)
   abbrev pub answerConditions : List (ℕ → Type 0)
   answerConditions =
@@ -161,34 +208,59 @@ module _ (t : Table) (marks : List ℕ) (p : Proposal) where
       -- 3: outer row
       ∷ (λ place. Holds t (p .row) 0 × (place ≡ 0))
       -- 4: add of an inside row, remove of an outside row
-      ∷ (λ place. (((p .kind ≡ 1) × (insideIn marks (p .row) ≡ true)) ⊎ ((p .kind ≡ 2) × (insideIn marks (p .row) ≡ false))) × (place ≡ 0))
+      ∷ (λ place. OtherSide (p .kind) (Inside marks) (p .row) × (place ≡ 0))
       -- 5: the five cases refuse
-      ∷ (λ place. Refuses t (insideIn marks) (adds p) (p .row) × (place ≡ 0))
+      ∷ (λ place. CasesRefuse × (place ≡ 0))
       ∷ []
 
+  -- for a kind that is 1 or 2 the tests say so
+  module _ (known : (p .kind ≡ 1) ⊎ (p .kind ≡ 2)) where
+    pub other-reads : (s : ℕ) → (insideIn marks s ≡ adds p) ↔ OtherSide (p .kind) (Inside marks) s
+    unfolding adds
+    other-reads s = ⊎-elim adding removing known
+      where
+        adding : p .kind ≡ 1 → (insideIn marks s ≡ adds p) ↔ OtherSide (p .kind) (Inside marks) s
+        adding k =
+            let is = eq-eqb (p .kind) 1 k in
+            (λ e. inl (k, inside-reads marks s .0 (e ∙ is)), ⊎-elim (λ (_, i). inside-reads marks s .1 i ∙ sym is) (λ (k′, _). absurd (omega arith)))
+
+        removing : p .kind ≡ 2 → (insideIn marks s ≡ adds p) ↔ OtherSide (p .kind) (Inside marks) s
+        removing k =
+            let is = ne-eqb (p .kind) 1 (λ (e : p .kind ≡ 1). omega arith) in (
+              λ e. inr (k, λ i. not-both (inside-reads marks s .1 i) (e ∙ is)),
+              ⊎-elim (λ (k′, _). absurd (omega arith)) (λ (_, off). is-false (insideIn marks s) (λ i. off (inside-reads marks s .0 i)) ∙ sym is),
+            )
+
+    pub cases-read : (passes t (insideIn marks) (adds p) (p .row) ≡ false) ↔ CasesRefuse
+    cases-read =
+        let skin = skin-reads t (insideIn marks) (inside-reads marks) (p .row) in
+        let (forth, back) = passes-reads t (insideIn marks) (adds p) (p .row) in (
+          λ e. refuses-map t (p .row) skin other-reads (forth e),
+          λ x. back (refuses-map t (p .row) (λ c. Iff·symm (skin c)) (λ s. Iff·symm (other-reads s)) x),
+        )
+
   answers-read : Reads (answerTests t marks p) answerConditions
-  unfolding answerTests outer adds
+  unfolding answerTests outer
   answers-read = (
-    given-reads {b = not (ltb (p .row) (t .rows))} (λ e. ltb-false (p .row) (t .rows) (not-true (ltb (p .row) (t .rows)) e), λ l. ap not (le-ltb (p .row) (t .rows) l)),
+    given-reads (not-reads-le (p .row) (t .rows)),
     λ _. (
       given-reads kinds,
-      λ known. (
+      λ passed. (
         given-reads (holds-reads t (p .row) 0),
         λ _. (
-          given-reads
-              (already (or-either (eqb (p .kind) 1) (eqb (p .kind) 2) (not-false (eqb (p .kind) 1 || eqb (p .kind) 2) (given-none (not (eqb (p .kind) 1 || eqb (p .kind) 2)) known)))),
-          λ _. (
-            given-reads {b = not (passes t (insideIn marks) (adds p) (p .row))} (
-              λ e. passes-reads t (insideIn marks) (adds p) (p .row) .0 (not-true (passes t (insideIn marks) (adds p) (p .row)) e),
-              λ x. ap not (passes-reads t (insideIn marks) (adds p) (p .row) .1 x),
-            ),
-            λ _. tt,
-          ),
+          given-reads (Iff·trans (other-side-reads (adds p) (insideIn marks) (p .row)) (other-reads (known passed) (p .row))),
+          λ _. (given-reads (Iff·trans (not-is (passes t (insideIn marks) (adds p) (p .row))) (cases-read (known passed))), λ _. tt),
         ),
       ),
     ),
   )
     where
+      not-reads-le : (a b : ℕ) → (not (ltb a b) ≡ true) ↔ (b ≤ a)
+      not-reads-le a b = (λ e. ltb-false a b (not-true (ltb a b) e), λ l. ap not (le-ltb a b l))
+
+      not-is : (b : Bool) → (not b ≡ true) ↔ (b ≡ false)
+      not-is b = (not-true b, λ e. ap not e)
+
       kinds : (not (eqb (p .kind) 1 || eqb (p .kind) 2) ≡ true) ↔ ((p .kind ≢ 1) × (p .kind ≢ 2))
       kinds = (
         λ e.
@@ -197,22 +269,10 @@ module _ (t : Table) (marks : List ℕ) (p : Proposal) where
         λ (a, b). rw (ne-eqb (p .kind) 1 a, ne-eqb (p .kind) 2 b),
       )
 
-      Already : Type 0
-      Already = ((p .kind ≡ 1) × (insideIn marks (p .row) ≡ true)) ⊎ ((p .kind ≡ 2) × (insideIn marks (p .row) ≡ false))
-
-      adding : p .kind ≡ 1 → (insideIn marks (p .row) ≡ adds p) ↔ Already
-      adding k =
-          let is : adds p ≡ true = eq-eqb (p .kind) 1 k in
-          (λ e. inl (k, e ∙ is), ⊎-elim (λ (_, i). i ∙ sym is) (λ (k′, _). absurd (omega arith)))
-
-      removing : p .kind ≡ 2 → (insideIn marks (p .row) ≡ adds p) ↔ Already
-      removing k =
-          let is : adds p ≡ false = ne-eqb (p .kind) 1 (λ (e : p .kind ≡ 1). omega arith) in
-          (λ e. inr (k, e ∙ is), ⊎-elim (λ (k′, _). absurd (omega arith)) (λ (_, i). i ∙ sym is))
-
-      already : (eqb (p .kind) 1 ≡ true) ⊎ (eqb (p .kind) 2 ≡ true) → (otherSide (adds p) (insideIn marks) (p .row) ≡ true) ↔ Already
-      already k =
-          Iff·trans (other-side-reads (adds p) (insideIn marks) (p .row)) (⊎-elim (λ e. adding (eqb-true (p .kind) 1 e)) (λ e. removing (eqb-true (p .kind) 2 e)) k)
+      known : given (not (eqb (p .kind) 1 || eqb (p .kind) 2)) ≡ none → (p .kind ≡ 1) ⊎ (p .kind ≡ 2)
+      known off =
+          or-reads (eqb-reads (p .kind) 1) (eqb-reads (p .kind) 2) .0
+          (not-false (eqb (p .kind) 1 || eqb (p .kind) 2) (given-none (not (eqb (p .kind) 1 || eqb (p .kind) 2)) off))
 
   -- answer 1 + i is given exactly if it applies and none before it does
   pub answer-exactly : (i : ℕ) → i < 5 → (answer t marks p ≡ 1 + i) ↔ ((place : ℕ) × FirstOf answerConditions i place)

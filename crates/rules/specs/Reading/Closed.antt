@@ -1,19 +1,19 @@
 -- The closed table: the triangle, edge and vertex rules.
 use mathlib.Core.Path.{_≡_, refl, sym, ap, _∙_, subst}
-use mathlib.Core.Logic.{_⊎_, inl, inr, ⊎-elim, _↔_, _≢_}
+use mathlib.Core.Logic.{_⊎_, ⊎-elim, _↔_, _≢_}
 use mathlib.Core.Bool.{Bool, true, not, _&&_}
 use mathlib.Core.Option.{Option, Option·getD}
 use mathlib.Core.List.{List, [], _∷_, List·Memᴰ·head, List·Memᴰ·tail, List·Memᴰ·not-nil, List·Memᴰ·cases-cons, List·Memᴰ·eq-of-singleton}
 use Prim.Native.Nat.{ℕ, _+_, _-_, _*_, _/_, _%_, _<_}
 use native.Mathlib.Nat.{lt-trans, lt-irrefl, mul-le-mul-left, mul-suc, mul-add-div, div-eq-of-lt, add-zero, mul-add-mod-self-left, mod-eq-of-lt}
 use native.Mathlib.Omega.{arith}
-use lib.Dec.{eqb, ltb}
+use lib.Dec.{eqb}
 use lib.ListN.{length, getD}
-use borrow.Author.Tests.{eqb-true, eq-eqb, eqb-false, ne-eqb, ltb-true, ltb-false, not-true}
+use borrow.Author.Tests.{eqb-true, eq-eqb, eqb-false, ne-eqb, not-true}
 use Rattle.rules.specs.Below.{count, tabulate}
 use Rattle.rules.specs.Shape.{edgeTable, vertices}
 use Rattle.rules.specs.Table.{Table, holds, side, neighbours, across, neighbourList, trianglesShared, holdsFace, faceJoined, facesJoined, edgesJoined, verticesJoined}
-use Rattle.rules.specs.Laws.Truth.{true-or-false, is-false, and-first, and-second, and-both}
+use Rattle.rules.specs.Laws.Truth.{is-false, lower-or-higher, and-first, and-second, and-both}
 use Rattle.rules.specs.Laws.Below.{is-lowest, all-each, each-all}
 use Rattle.rules.specs.Laws.Count.{ExactlyTwo, TheOther, two-map, count-two, two-count, the-other}
 use Rattle.rules.specs.Laws.Lists.{Among, in-gather, gather-in, tabulate-length, tabulate-at}
@@ -186,11 +186,8 @@ module _ {t : Table} {idCount : ℕ} (closed : Closed t idCount) where
   edge-rule four a b ne x y (l, ((i, li, p), (j, lj, q))) =
       ⊎-elim (λ (i<j : i < j). rising-edge a b i j li lj i<j p q x y (l, ((i, li, p), (j, lj, q))))
       (λ (j<i : j < i). joined-map t (λ z (h, k). (k, h)) (λ z (h, k). (k, h)) (rising-edge b a j i lj li j<i q p) x y (l, ((i, li, p), (j, lj, q))))
-      (apart i j (λ (e : i ≡ j). ne (sym p ∙ ap (t .id x) e ∙ q)))
+      (lower-or-higher i j (λ (e : i ≡ j). ne (sym p ∙ ap (t .id x) e ∙ q)))
     where
-      apart : (i j : ℕ) → i ≢ j → (i < j) ⊎ (j < i)
-      apart i j ne = ⊎-elim (λ h. inl (ltb-true i j h)) (λ h. inr (omega (arith, ltb-false i j h))) (true-or-false (ltb i j))
-
       rising-edge : (a b i j : ℕ) → i < t .corners → j < t .corners → i < j → t .id x i ≡ a → t .id x j ≡ b → Joined t (λ z. Holds t z a × Holds t z b)
       rising-edge a b i j li lj i<j p q =
           joined-map t (λ z (h, k). (subst (Holds t z) p h, subst (Holds t z) q k)) (λ z (h, k). (subst (Holds t z) (sym p) h, subst (Holds t z) (sym q) k))

@@ -1,6 +1,6 @@
 -- The twelve codes: each is given, with its place, exactly if its condition holds there and none before it does; and what each leaves.
 use mathlib.Core.Path.{_≡_, sym, ap, _∙_}
-use mathlib.Core.Logic.{_⊎_, ⊎-elim, _↔_, _≢_}
+use mathlib.Core.Logic.{_⊎_, ⊎-elim, _↔_, Iff·trans, _≢_}
 use mathlib.Core.Bool.{Bool, true, not, _&&_, _||_}
 use mathlib.Core.Option.{none}
 use mathlib.Core.List.{List, [], _∷_, _++_}
@@ -11,20 +11,20 @@ use lib.Dec.{eqb}
 use lib.ListN.{length, getD, drop, replicate, length-replicate, length-drop}
 use lib.Seq.{length-take-le}
 use borrow.Author.Tests.{ne-eqb, not-false, lt-ltb, le-leb, lt-leb}
-use Rattle.rules.specs.Below.{lowest}
+use Rattle.rules.specs.Below.{found, lowest}
 use Rattle.rules.specs.Table.{Table, tableOf, rising, idsBelow, before, holds, outer, trianglesShared, edgesJoined, verticesJoined}
-use Rattle.rules.specs.Skin.{onSkin, oneRing, ringless, clean}
-use Rattle.rules.specs.First.{Test, Verdict, firstMatch}
+use Rattle.rules.specs.Skin.{ringless, clean}
+use Rattle.rules.specs.First.{Test, given, Verdict, firstMatch}
 use Rattle.rules.specs.Proposals.{insideIn}
 use Rattle.rules.specs.Job.{Form, Header, headerWord, headerOf, mostIds, mostRows, mostProposals, least, within, withinLimits, rowsAt, marksAt, proposalsAt, wholeLength, laidOut, rowsTable, Job, jobOf, cleanWith, Lent, workRoom, listRoom, shortRooms, roomShort, written, codes, layoutTests, roomTests, badRow, notAfter, tableTests, markTests, sectionTests, jobTests, Result, accepted, refused, verdictOn, run}
 use Rattle.rules.specs.Laws.Job.{job-corners}
-use Rattle.rules.specs.Laws.Truth.{is-true, not-both, and-both, not-reads, and-reads, or-reads, eqb-reads, ltb-reads, leb-reads, same-or-not}
+use Rattle.rules.specs.Laws.Truth.{is-true, is-false, not-both, and-both, not-reads, and-reads, or-reads, eqb-reads, ltb-reads, leb-reads, same-or-not}
 use Rattle.rules.specs.Laws.Below.{lowest-none, none-any}
-use Rattle.rules.specs.Laws.First.{Reads, FirstOf, conditionAt, first-reads, none-reads, given-reads, given-none, match-parts, match-below, match-zero, match-none}
+use Rattle.rules.specs.Laws.First.{Reads, FirstOf, conditionAt, first-reads, none-reads, given-reads, given-none, match-parts, match-both, match-below, match-zero, match-none}
 use Rattle.rules.specs.Reading.Rows.{First, lowest-first, Rising, rising-reads, IdsBelow, ids-below-reads, Before, before-reads, Holds, holds-reads}
 use Rattle.rules.specs.Reading.Closed.{TrianglesShared, triangles-read, EdgesJoined, edges-read, VerticesJoined, vertices-read, Paired, Closed}
-use Rattle.rules.specs.Reading.Skin.{SkinTriangle, far-reads, skin-vertex-reads}
-use Rattle.rules.specs.Reading.Ring.{OneRing, ring-map, one-ring-reads}
+use Rattle.rules.specs.Reading.Skin.{Inside, inside-reads, SkinVertex, SkinTriangle, skin-vertex-reads}
+use Rattle.rules.specs.Reading.Ring.{OneRing, Clean, one-ring-reads, ring-plain}
 
 -- ---- the header and the room
 
@@ -75,11 +75,6 @@ module _ (f : Form) where
 
 -- ---- rows, table and marks
 
--- v is on the skin: some skin triangle holds it
-abbrev pub OnSkinVertex : Table → (ℕ → Bool) → ℕ → Type 0
-OnSkinVertex t inside v =
-    (r : ℕ) × (c : ℕ) × (k : ℕ) × (r < t .rows) × (c < 4) × (k < 4) × (k ≢ c) × (onSkin t inside r c ≡ true) × (t .id r k ≡ v)
-
 abbrev pub tableConditions : Table → ℕ → List (ℕ → Type 0)
 tableConditions t idCount =
     -- 5: a row's ids not strictly rising, or an id not below V
@@ -97,9 +92,9 @@ markConditions t idCount marks =
     -- 10: a mark that is not 0 or 1
     First (t .rows) (λ r. ((getD marks r 0 ≡ 0) ⊎ (getD marks r 0 ≡ 1)) → ⊥)
     -- 11: an outer row marked inside
-    ∷ First (t .rows) (λ r. Holds t r 0 × (getD marks r 0 ≡ 1))
-    -- 12: starting skin not clean
-    ∷ First idCount (λ v. OnSkinVertex t (insideIn marks) v × (OneRing idCount (SkinTriangle t (insideIn marks) v) → ⊥))
+    ∷ First (t .rows) (λ r. Holds t r 0 × Inside marks r)
+    -- 12: starting skin not clean: a skin vertex without one ring
+    ∷ First idCount (λ v. SkinVertex t (Inside marks) v × (OneRing idCount (SkinTriangle t (Inside marks) v) → ⊥))
     ∷ []
 
 module _ (t : Table) (idCount : ℕ) where
@@ -179,27 +174,33 @@ module _ (t : Table) (idCount : ℕ) where
 
   -- codes 10 to 12, on a closed table of four corners
   marks-read : t .corners ≡ 4 → (marks : List ℕ) → Closed t idCount → Reads (markTests t idCount marks) (markConditions t idCount marks)
-  unfolding markTests outer insideIn ringless
+  unfolding markTests outer ringless
   marks-read four marks closed = (
     lowest-first (t .rows) (λ r. not (eqb (getD marks r 0) 0 || eqb (getD marks r 0) 1)) (λ r. ((getD marks r 0 ≡ 0) ⊎ (getD marks r 0 ≡ 1)) → ⊥)
         (λ r _. not-reads (or-reads (eqb-reads (getD marks r 0) 0) (eqb-reads (getD marks r 0) 1))),
     λ _. (
-      lowest-first (t .rows) (λ r. holds t r 0 && insideIn marks r) (λ r. Holds t r 0 × (getD marks r 0 ≡ 1))
-          (λ r _. and-reads (holds-reads t r 0) (eqb-reads (getD marks r 0) 1)),
+      lowest-first (t .rows) (λ r. holds t r 0 && insideIn marks r) (λ r. Holds t r 0 × Inside marks r)
+          (λ r _. and-reads (holds-reads t r 0) (inside-reads marks r)),
       λ _. (
         lowest-first idCount (ringless t (insideIn marks) idCount)
-            (λ v. OnSkinVertex t (insideIn marks) v × (OneRing idCount (SkinTriangle t (insideIn marks) v) → ⊥))
-            (λ v _. and-reads (skin-vertex-reads t four (insideIn marks) (closed .paired) v) (not-reads (ring v))),
+            (λ v. SkinVertex t (Inside marks) v × (OneRing idCount (SkinTriangle t (Inside marks) v) → ⊥))
+            (λ v _. and-reads (skin-vertex-reads t four (insideIn marks) (inside-reads marks) (closed .paired) v)
+            (not-reads (Iff·trans (one-ring-reads t (insideIn marks) idCount v) (ring-plain t four (insideIn marks) (inside-reads marks) idCount v)))),
         λ _. tt,
       ),
     ),
   )
+
+  -- marks of 0 and 1, no outer row inside and a clean skin: none of the codes 10 to 12
+  pub marks-fit : t .corners ≡ 4 → (marks : List ℕ) → Closed t idCount → ((r : ℕ) → r < t .rows → (getD marks r 0 ≡ 0) ⊎ (getD marks r 0 ≡ 1))
+      → ((r : ℕ) → r < t .rows → Holds t r 0 → Inside marks r → ⊥) → Clean t (Inside marks) idCount → firstMatch 10 (markTests t idCount marks) .code ≡ 0
+  marks-fit four marks closed binary finite rings = none-reads 10 (zero-lt-suc 9) (markTests t idCount marks) (markConditions t idCount marks) (marks-read four marks closed) .1 off
     where
-      ring : (v : ℕ) → (oneRing t (insideIn marks) idCount v ≡ true) ↔ OneRing idCount (SkinTriangle t (insideIn marks) v)
-      ring v = (
-        λ e. ring-map (λ a b. far-reads t four (insideIn marks) v a b .0) (λ a b. far-reads t four (insideIn marks) v a b .1) (one-ring-reads t (insideIn marks) idCount v .0 e),
-        λ r. one-ring-reads t (insideIn marks) idCount v .1 (ring-map (λ a b. far-reads t four (insideIn marks) v a b .1) (λ a b. far-reads t four (insideIn marks) v a b .0) r),
-      )
+      off : (i place : ℕ) → conditionAt (markConditions t idCount marks) i place → ⊥
+      off zero r f = f .is (binary r (f .below))
+      off (suc zero) r f = finite r (f .below) (f .is .0) (f .is .1)
+      off (suc (suc zero)) v f = f .is .1 (rings v (f .below) (f .is .0))
+      off (suc (suc (suc i))) place f = f
 
 -- ---- the twelve codes
 
@@ -287,6 +288,17 @@ module _ (f : Form) (bytes : List ℕ) (lent : Lent) where
         let (forth, back) = none-reads 1 (zero-lt-suc 0) (jobTests f bytes lent) jobConditions (codes-read four) in
         (λ e. forth (sym run-code ∙ e), λ off. run-code ∙ back off)
 
+  room-passes : (RoomShort f (headerOf bytes) lent → ⊥) → firstMatch 4 (roomTests f (headerOf bytes) lent) .code ≡ 0
+  unfolding roomTests firstMatch given found
+  room-passes room = rw (is-false (roomShort f (headerOf bytes) lent) (λ e. room (room-reads f (headerOf bytes) lent .0 e)))
+
+  -- a file that is laid out, with room enough and sections that pass, is run
+  pub run-fits : firstMatch 1 (layoutTests f bytes) .code ≡ 0 → (RoomShort f (headerOf bytes) lent → ⊥) → firstMatch 5 (sectionTests (jobOf f bytes)) .code ≡ 0
+      → run f bytes lent ≡ accepted (jobOf f bytes) lent
+  unfolding verdictOn jobTests layoutTests roomTests
+  run-fits laid room sections =
+      run-accepted (match-both 1 (zero-lt-suc 0) (layoutTests f bytes) _ laid (match-both 4 (zero-lt-suc 3) (roomTests f (headerOf bytes) lent) _ (room-passes room) sections))
+
   -- ---- what an accepted job keeps
 
   module _ (ran : run f bytes lent .code ≡ 0) where
@@ -298,7 +310,7 @@ module _ (f : Form) (bytes : List ℕ) (lent : Lent) where
     unfolding verdictOn jobTests layoutTests
     later-passed = match-parts 1 (zero-lt-suc 0) (layoutTests f bytes) _ (sym run-code ∙ ran) .1
 
-    sections-passed : firstMatch 5 (sectionTests (jobOf f bytes)) .code ≡ 0
+    pub sections-passed : firstMatch 5 (sectionTests (jobOf f bytes)) .code ≡ 0
     unfolding roomTests
     sections-passed = match-parts 4 (zero-lt-suc 3) (roomTests f (headerOf bytes) lent) _ later-passed .1
 
@@ -318,6 +330,16 @@ module _ (f : Form) (bytes : List ℕ) (lent : Lent) where
         let (n10, _) = match-zero 10 (zero-lt-suc 9) _ _ marks-passed in
         or-reads (eqb-reads (getD marks r 0) 0) (eqb-reads (getD marks r 0) 1) .0
         (each-row (jobOf f bytes .table) (jobOf f bytes .ids) (λ r. eqb (getD marks r 0) 0 || eqb (getD marks r 0) 1) n10 r l)
+
+    -- no outer row is inside
+    pub accepted-outer : (r : ℕ) → r < jobOf f bytes .table .rows → Holds (jobOf f bytes .table) r 0 → Inside (jobOf f bytes .marks) r → ⊥
+    unfolding markTests outer
+    accepted-outer r l h i =
+        let t = jobOf f bytes .table in
+        let marks = jobOf f bytes .marks in
+        let (_, e11) = match-zero 10 (zero-lt-suc 9) _ _ marks-passed in
+        let (n11, _) = match-zero 11 (zero-lt-suc 10) _ _ e11 in
+        not-both (and-both (holds-reads t r 0 .1 h) (inside-reads marks r .1 i)) (lowest-none (t .rows) (λ r. holds t r 0 && insideIn marks r) n11 r l)
 
     -- the starting skin is clean
     pub accepted-clean : cleanWith (jobOf f bytes) (jobOf f bytes .marks) ≡ true

@@ -13,7 +13,8 @@ use Rattle.rules.specs.Laws.Truth.{true-or-false, not-both, is-false, an
 use Rattle.rules.specs.Laws.Below.{any-here, any-some, any-none, none-any, all-each, each-all}
 use Rattle.rules.specs.Laws.Count.{ExactlyTwo, two-map, count-two, two-count}
 use Rattle.rules.specs.Laws.Joined.{Chain, stay, step, chain-starts, chain-map, Picked, picked-chain, chain-picked}
-use Rattle.rules.specs.Reading.Skin.{far-back}
+use Rattle.rules.specs.Reading.Closed.{Paired}
+use Rattle.rules.specs.Reading.Skin.{SkinVertex, SkinTriangle, far-reads, skin-vertex-reads, far-back}
 
 -- ---- edges between numbers below n
 
@@ -163,3 +164,23 @@ module _ (t : Table) (inside : ℕ → Bool) (idCount : ℕ) where
       none : (a b : ℕ) → Edge idCount (FarEdge v) (a, b) → ⊥
       none a b (la, lb, f) =
           not-both (any-here idCount (farEdge t inside v a) b lb f) (any-none idCount (farEnd t inside idCount v) off a la)
+
+-- ---- in plain relations
+
+-- the skin is clean: at each skin vertex the edges opposite it in the skin triangles that hold it form one ring
+abbrev pub Clean : Table → (ℕ → Type 0) → ℕ → Type 0
+Clean t In idCount = (v : ℕ) → v < idCount → SkinVertex t In v → OneRing idCount (SkinTriangle t In v)
+
+module _ (t : Table) (four : t .corners ≡ 4) (inside : ℕ → Bool) {In : ℕ → Type 0} (told : (s : ℕ) → (inside s ≡ true) ↔ In s) (idCount : ℕ) where
+  pub ring-plain : (v : ℕ) → OneRing idCount (FarEdge t inside idCount v) ↔ OneRing idCount (SkinTriangle t In v)
+  ring-plain v = (
+    ring-map (λ a b. far-reads t four inside told v a b .0) (λ a b. far-reads t four inside told v a b .1),
+    ring-map (λ a b. far-reads t four inside told v a b .1) (λ a b. far-reads t four inside told v a b .0),
+  )
+
+  pub clean-plain : Paired t idCount → (clean t inside idCount ≡ true) ↔ Clean t In idCount
+  clean-plain paired =
+      let (forth, back) = clean-reads t inside idCount in (
+        λ e v l on. ring-plain v .0 (forth e v l (skin-vertex-reads t four inside told paired v .1 on)),
+        λ rings. back (λ v l on. ring-plain v .1 (rings v l (skin-vertex-reads t four inside told paired v .0 on))),
+      )

@@ -22,7 +22,7 @@ use Rattle.rules.specs.Laws.Places.{row-of, within-row, row-below}
 use Rattle.rules.specs.Reading.Rows.{one-corner}
 use Rattle.rules.specs.Reading.Neighbours.{Side, side-self, side-reads, sides, sides-back}
 use Rattle.rules.specs.Reading.Closed.{Paired, across-is, across-other}
-use Rattle.rules.specs.Reading.Skin.{skin-reads, skin-between}
+use Rattle.rules.specs.Reading.Skin.{OnSkin, as-tested, skin-reads, skin-between}
 
 module _ (t : Table) (inside : ℕ → Bool) where
   -- the skin triangles of an inside row
@@ -174,18 +174,19 @@ triangle-length t four r c l =
     three = omega (arith, count-not 4 (λ k. eqb k c), one)
 
 -- the members of the skin list are the skin triangles of the inside rows
-pub record Listed (t : Table) (inside : ℕ → Bool) (ids : List ℕ) : Type 0 where
+pub record Listed (t : Table) (In : ℕ → Type 0) (ids : List ℕ) : Type 0 where
   pub row : ℕ
   pub corner : ℕ
   pub row-below : row < t .rows
   pub corner-below : corner < t .corners
-  pub row-inside : inside row ≡ true
-  pub on-skin : onSkin t inside row corner ≡ true
+  pub row-inside : In row
+  pub on-skin : OnSkin t In row corner
   pub ids-are : ids ≡ triangle t row corner
 
-pub skin-listed : (t : Table) (inside : ℕ → Bool) (ids : List ℕ) → Among ids (skin t inside) ↔ Listed t inside ids
+pub skin-listed : (t : Table) (inside : ℕ → Bool) {In : ℕ → Type 0} → ((s : ℕ) → (inside s ≡ true) ↔ In s)
+    → (ids : List ℕ) → Among ids (skin t inside) ↔ Listed t In ids
 unfolding skin skinOf
-skin-listed t inside ids = (
+skin-listed t inside told ids = (
   λ m.
       let (r, l, i) = gather-in (t .rows) (skinOf t inside) ids m in
       let (c, k, j) = gather-in (t .corners) (λ c. only (inside r && onSkin t inside r c) (triangle t r c)) ids i in
@@ -195,14 +196,14 @@ skin-listed t inside ids = (
         corner = c;
         row-below = l;
         corner-below = k;
-        row-inside = and-first (inside r) (onSkin t inside r c) e;
-        on-skin = and-second (inside r) (onSkin t inside r c) e;
+        row-inside = told r .0 (and-first (inside r) (onSkin t inside r c) e);
+        on-skin = skin-reads t inside told r c .0 (and-second (inside r) (onSkin t inside r c) e);
         ids-are = q;
       },
   λ x.
       in-gather (t .rows) (skinOf t inside) ids (x .row) (x .row-below)
       (in-gather (t .corners) (λ c. only (inside (x .row) && onSkin t inside (x .row) c) (triangle t (x .row) c)) ids (x .corner) (x .corner-below)
-      (Memᴰ·cast (x .ids-are) (in-only (inside (x .row) && onSkin t inside (x .row) (x .corner)) (triangle t (x .row) (x .corner)) (and-both (x .row-inside) (x .on-skin))))),
+      (Memᴰ·cast (x .ids-are) (in-only (inside (x .row) && onSkin t inside (x .row) (x .corner)) (triangle t (x .row) (x .corner)) (and-both (told (x .row) .1 (x .row-inside)) (skin-reads t inside told (x .row) (x .corner) .1 (x .on-skin)))))),
 )
 
 threes : (xs : List (List ℕ)) → ((x : List ℕ) → Among x xs → length x ≡ 3) → length (flatten xs) ≡ 3 * length xs
@@ -215,7 +216,7 @@ threes (x ∷ xs) each =
 pub skin-words : (t : Table) (inside : ℕ → Bool) → t .corners ≡ 4 → length (flatten (skin t inside)) ≡ 3 * length (skin t inside)
 skin-words t inside four =
     threes (skin t inside) (λ ids m.
-    let x = skin-listed t inside ids .0 m in
+    let x = skin-listed t inside (as-tested inside) ids .0 m in
     ap length (x .ids-are) ∙ triangle-length t four (x .row) (x .corner) (subst (λ (n : ℕ). x .corner < n) four (x .corner-below)))
 
 -- and 6N words hold it
@@ -226,11 +227,11 @@ skin-fits t inside paired four = omega (arith, skin-words t inside four, at-most
 
 module _ (t : Table) (four : t .corners ≡ 4) (r c : ℕ) where
   -- the ids of a triangle are those of its corners
-  triangle-holds : (k : ℕ) → k < 4 → k ≢ c → Among (t .id r k) (triangle t r c)
+  pub triangle-holds : (k : ℕ) → k < 4 → k ≢ c → Among (t .id r k) (triangle t r c)
   unfolding triangle facet
   triangle-holds k l ne = Memᴰ·map (t .id r) (in-pick (t .corners) (λ k. not (eqb k c)) k (rw four l) (ap not (ne-eqb k c ne)))
 
-  holds-triangle : (u : ℕ) → Among u (triangle t r c) → (k : ℕ) × (k < 4) × (k ≢ c) × (t .id r k ≡ u)
+  pub holds-triangle : (u : ℕ) → Among u (triangle t r c) → (k : ℕ) × (k < 4) × (k ≢ c) × (t .id r k ≡ u)
   unfolding triangle facet
   holds-triangle u m =
       let (k, i, e) = Memᴰ·of-map (t .id r) (pick (t .corners) (λ k. not (eqb k c))) m in
@@ -248,7 +249,7 @@ module _ (t : Table) (inside : ℕ → Bool) {idCount : ℕ} (paired : Paired t 
 
       row : r ≡ s
       row =
-          let one = skin-reads t inside r c .0 (and-second (inside r) (onSkin t inside r c) er) in
+          let one = skin-reads t inside (as-tested inside) r c .0 (and-second (inside r) (onSkin t inside r c) er) in
           one .only r lr (and-first (inside r) (onSkin t inside r c) er, side-self t r c) ∙ sym (one .only s ls (and-first (inside s) (onSkin t inside s d) es, held))
 
       twice : c ≢ d → ⊥

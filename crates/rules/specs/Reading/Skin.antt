@@ -2,13 +2,16 @@
 use mathlib.Core.Path.{_≡_, refl, sym, ap, ap₂, _∙_, subst}
 use mathlib.Core.Logic.{_⊎_, inl, inr, ⊎-elim, _↔_, _≢_, Ne·symm}
 use mathlib.Core.Bool.{Bool, true, false, not, _&&_, xor, and-comm}
+use mathlib.Core.List.{List}
 use Prim.Native.Nat.{ℕ, _<_}
 use lib.Dec.{eqb}
+use lib.ListN.{getD}
 use borrow.Author.Tests.{eqb-true, eq-eqb, eqb-false, ne-eqb, not-true}
 use Rattle.rules.specs.Below.{any, count}
 use Rattle.rules.specs.Table.{Table, holds, side, across}
 use Rattle.rules.specs.Skin.{onSkin, different, holdsThree, farEdge, farEnd, skinVertex}
-use Rattle.rules.specs.Laws.Truth.{not-both, same-test, and-first, and-second, and-both, same-or-not, eqb-back}
+use Rattle.rules.specs.Proposals.{insideIn}
+use Rattle.rules.specs.Laws.Truth.{not-both, is-false, eqb-reads, same-test, and-first, and-second, and-both, same-or-not, eqb-back}
 use Rattle.rules.specs.Laws.Below.{any-here, any-some}
 use Rattle.rules.specs.Laws.Count.{ExactlyOne, one-map, ExactlyTwo, TheOther, count-same, count-one, one-count, one-side}
 use Rattle.rules.specs.Laws.Shape.{fourth-corner, two-others}
@@ -16,58 +19,90 @@ use Rattle.rules.specs.Reading.Rows.{one-corner, Holds, holds-reads}
 use Rattle.rules.specs.Reading.Neighbours.{Side, side-reads, side-self}
 use Rattle.rules.specs.Reading.Closed.{Paired, across-other, across-is}
 
-module _ (t : Table) (inside : ℕ → Bool) where
-  -- ---- triangles on the skin
+-- ---- the skin, in plain relations: `In s` says that row s is inside
 
+-- by a list of marks: the mark is 1
+abbrev pub Inside : List ℕ → ℕ → Type 0
+Inside marks r = getD marks r 0 ≡ 1
+
+pub inside-reads : (marks : List ℕ) (r : ℕ) → (insideIn marks r ≡ true) ↔ Inside marks r
+unfolding insideIn
+inside-reads marks r = eqb-reads (getD marks r 0) 1
+
+-- by a test
+pub as-tested : (inside : ℕ → Bool) (s : ℕ) → (inside s ≡ true) ↔ (inside s ≡ true)
+as-tested inside s = (λ e. e, λ e. e)
+
+module _ (t : Table) (In : ℕ → Type 0) where
+  -- the triangle of row r that leaves out corner c is on the skin: it is in exactly one inside row
   abbrev pub OnSkin : ℕ → ℕ → Type 0
-  OnSkin r c = ExactlyOne (t .rows) (λ s. (inside s ≡ true) × Side t r c s)
+  OnSkin r c = ExactlyOne (t .rows) (λ s. In s × Side t r c s)
 
-  pub skin-reads : (r c : ℕ) → (onSkin t inside r c ≡ true) ↔ OnSkin r c
+  -- of the rows that hold it one is inside, and one outside
+  pub record BetweenSides (r c : ℕ) : Type 0 where
+    pub in-row : ℕ
+    pub out-row : ℕ
+    pub in-below : in-row < t .rows
+    pub out-below : out-row < t .rows
+    pub in-holds : Side t r c in-row
+    pub out-holds : Side t r c out-row
+    pub is-inside : In in-row
+    pub is-outside : In out-row → ⊥
+
+  -- v is on the skin: a skin triangle holds it
+  pub record SkinVertex (v : ℕ) : Type 0 where
+    pub row : ℕ
+    pub corner : ℕ
+    pub at : ℕ
+    pub row-below : row < t .rows
+    pub corner-below : corner < 4
+    pub at-below : at < 4
+    pub stays : at ≢ corner
+    pub on-skin : OnSkin row corner
+    pub is : t .id row at ≡ v
+
+-- ---- the computed tests say so
+
+module _ (t : Table) (inside : ℕ → Bool) where
+  -- on the skin exactly if the marks of the two rows that hold the triangle differ
+  pub skin-between : {idCount : ℕ} → Paired t idCount → (r c : ℕ) → r < t .rows → c < t .corners → onSkin t inside r c ≡ xor (inside r) (inside (across t r c))
   unfolding onSkin
-  skin-reads r c = (
-    λ e. one-map (λ s q. (and-first (inside s) (side t r c s) q, side-reads t r c s .0 (and-second (inside s) (side t r c s) q)))
-        (λ s (i, h). and-both i (side-reads t r c s .1 h)) (count-one (t .rows) (λ s. inside s && side t r c s) (eqb-true (count (t .rows) (λ s. inside s && side t r c s)) 1 e)),
-    λ x. eq-eqb (count (t .rows) (λ s. inside s && side t r c s)) 1 (one-count (t .rows) (λ s. inside s && side t r c s)
-        (one-map (λ s (i, h). and-both i (side-reads t r c s .1 h)) (λ s q. (and-first (inside s) (side t r c s) q, side-reads t r c s .0 (and-second (inside s) (side t r c s) q))) x)),
-  )
+  skin-between paired r c l m =
+      let o = across-is paired r c l m in
+      one-side (t .rows) (side t r c) inside r l (side-reads t r c r .1 (side-self t r c)) (record {
+        other = o .other;
+        below = o .below;
+        is = side-reads t r c (o .other) .1 (o .is);
+        differs = o .differs;
+        only = λ j n q ne. o .only j n (side-reads t r c j .0 q) ne;
+      })
+      ∙ ap (λ (s : ℕ). xor (inside r) (inside s)) (sym (across-other t r c o))
 
-  module _ {idCount : ℕ} (paired : Paired t idCount) where
-    -- the marks of the two rows that hold the triangle differ
-    pub skin-between : (r c : ℕ) → r < t .rows → c < t .corners → onSkin t inside r c ≡ xor (inside r) (inside (across t r c))
+  module _ {In : ℕ → Type 0} (told : (s : ℕ) → (inside s ≡ true) ↔ In s) where
+    pub skin-reads : (r c : ℕ) → (onSkin t inside r c ≡ true) ↔ OnSkin t In r c
     unfolding onSkin
-    skin-between r c l m =
-        let o = across-is paired r c l m in
-        one-side (t .rows) (side t r c) inside r l (side-reads t r c r .1 (side-self t r c)) (record {
-          other = o .other;
-          below = o .below;
-          is = side-reads t r c (o .other) .1 (o .is);
-          differs = o .differs;
-          only = λ j n q ne. o .only j n (side-reads t r c j .0 q) ne;
-        })
-        ∙ ap (λ (s : ℕ). xor (inside r) (inside s)) (sym (across-other t r c o))
+    skin-reads r c = (
+      λ e. one-map forth back (count-one (t .rows) (λ s. inside s && side t r c s) (eqb-true (count (t .rows) (λ s. inside s && side t r c s)) 1 e)),
+      λ x. eq-eqb (count (t .rows) (λ s. inside s && side t r c s)) 1 (one-count (t .rows) (λ s. inside s && side t r c s) (one-map back forth x)),
+    )
+      where
+        forth : (s : ℕ) → (inside s && side t r c s) ≡ true → In s × Side t r c s
+        forth s q = (told s .0 (and-first (inside s) (side t r c s) q), side-reads t r c s .0 (and-second (inside s) (side t r c s) q))
 
-    -- one of the two is inside, and one outside
-    pub record BetweenSides (r c : ℕ) : Type 0 where
-      pub in-row : ℕ
-      pub out-row : ℕ
-      pub in-below : in-row < t .rows
-      pub out-below : out-row < t .rows
-      pub in-holds : Side t r c in-row
-      pub out-holds : Side t r c out-row
-      pub is-inside : inside in-row ≡ true
-      pub is-outside : inside out-row ≡ false
+        back : (s : ℕ) → In s × Side t r c s → (inside s && side t r c s) ≡ true
+        back s (i, h) = and-both (told s .1 i) (side-reads t r c s .1 h)
 
-    pub skin-between-sides : (r c : ℕ) → r < t .rows → c < t .corners → (onSkin t inside r c ≡ true) ↔ BetweenSides r c
+    pub skin-between-sides : {idCount : ℕ} → Paired t idCount → (r c : ℕ) → r < t .rows → c < t .corners → (onSkin t inside r c ≡ true) ↔ BetweenSides t In r c
     unfolding xor
-    skin-between-sides r c l m = (λ e. forth (inside r) (inside (o .other)) refl refl (sym differ ∙ e), back)
+    skin-between-sides paired r c l m = (λ e. forth (inside r) (inside (o .other)) refl refl (sym differ ∙ e), back)
       where
         o : TheOther (t .rows) (Side t r c) r
         o = across-is paired r c l m
 
         differ : onSkin t inside r c ≡ xor (inside r) (inside (o .other))
-        differ = skin-between r c l m ∙ ap (λ (s : ℕ). xor (inside r) (inside s)) (across-other t r c o)
+        differ = skin-between paired r c l m ∙ ap (λ (s : ℕ). xor (inside r) (inside s)) (across-other t r c o)
 
-        sides : (x y : ℕ) → x < t .rows → y < t .rows → Side t r c x → Side t r c y → inside x ≡ true → inside y ≡ false → BetweenSides r c
+        sides : (x y : ℕ) → x < t .rows → y < t .rows → Side t r c x → Side t r c y → inside x ≡ true → inside y ≡ false → BetweenSides t In r c
         sides x y lx ly hx hy ix iy = record {
           in-row = x;
           out-row = y;
@@ -75,11 +110,11 @@ module _ (t : Table) (inside : ℕ → Bool) where
           out-below = ly;
           in-holds = hx;
           out-holds = hy;
-          is-inside = ix;
-          is-outside = iy;
+          is-inside = told x .0 ix;
+          is-outside = λ i. not-both (told y .1 i) iy;
         }
 
-        forth : (a b : Bool) → inside r ≡ a → inside (o .other) ≡ b → xor (inside r) (inside (o .other)) ≡ true → BetweenSides r c
+        forth : (a b : Bool) → inside r ≡ a → inside (o .other) ≡ b → xor (inside r) (inside (o .other)) ≡ true → BetweenSides t In r c
         forth true false p q _ = sides r (o .other) l (o .below) (side-self t r c) (o .is) p q
         forth false true p q _ = sides (o .other) r (o .below) l (o .is) (side-self t r c) q p
         forth true true p q x = absurd (not-both x (rw (p, q)))
@@ -89,14 +124,20 @@ module _ (t : Table) (inside : ℕ → Bool) where
         which : (x : ℕ) → x < t .rows → Side t r c x → (x ≡ r) ⊎ (x ≡ o .other)
         which x lx h = ⊎-elim inl (λ ne. inr (o .only x lx h ne)) (same-or-not x r)
 
-        back : BetweenSides r c → onSkin t inside r c ≡ true
+        back : BetweenSides t In r c → onSkin t inside r c ≡ true
         back b = differ ∙ from (which (b .in-row) (b .in-below) (b .in-holds)) (which (b .out-row) (b .out-below) (b .out-holds))
           where
+            is-in : inside (b .in-row) ≡ true
+            is-in = told (b .in-row) .1 (b .is-inside)
+
+            is-out : inside (b .out-row) ≡ false
+            is-out = is-false (inside (b .out-row)) (λ i. b .is-outside (told (b .out-row) .0 i))
+
             from : (b .in-row ≡ r) ⊎ (b .in-row ≡ o .other) → (b .out-row ≡ r) ⊎ (b .out-row ≡ o .other) → xor (inside r) (inside (o .other)) ≡ true
-            from (inl e) (inl f) = absurd (not-both (b .is-inside) (ap inside (e ∙ sym f) ∙ b .is-outside))
-            from (inl e) (inr f) = rw (ap inside (sym e) ∙ b .is-inside, ap inside (sym f) ∙ b .is-outside)
-            from (inr e) (inl f) = rw (ap inside (sym e) ∙ b .is-inside, ap inside (sym f) ∙ b .is-outside)
-            from (inr e) (inr f) = absurd (not-both (b .is-inside) (ap inside (e ∙ sym f) ∙ b .is-outside))
+            from (inl e) (inl f) = absurd (not-both is-in (ap inside (e ∙ sym f) ∙ is-out))
+            from (inl e) (inr f) = rw (ap inside (sym e) ∙ is-in, ap inside (sym f) ∙ is-out)
+            from (inr e) (inl f) = rw (ap inside (sym e) ∙ is-in, ap inside (sym f) ∙ is-out)
+            from (inr e) (inr f) = absurd (not-both is-in (ap inside (e ∙ sym f) ∙ is-out))
 
 -- ---- far edges, in a table of four corners
 
@@ -129,13 +170,13 @@ pub record TriangleIds (t : Table) (r c v a b : ℕ) : Type 0 where
   pub second-is : t .id r second ≡ a
   pub third-is : t .id r third ≡ b
 
--- v, a and b are the ids of a skin triangle
-pub record SkinTriangle (t : Table) (inside : ℕ → Bool) (v a b : ℕ) : Type 0 where
+-- v, a and b are the ids of a skin triangle: a b is a far edge of v, the edge opposite it there
+pub record SkinTriangle (t : Table) (In : ℕ → Type 0) (v a b : ℕ) : Type 0 where
   pub row : ℕ
   pub corner : ℕ
   pub row-below : row < t .rows
   pub corner-below : corner < 4
-  pub on-skin : onSkin t inside row corner ≡ true
+  pub on-skin : OnSkin t In row corner
   pub different : Different v a b
   pub ids : TriangleIds t row corner v a b
 
@@ -225,72 +266,84 @@ module _ (t : Table) (four : t .corners ≡ 4) where
     unfolding farEdge insideRows
     skin-far {v = v} {a = a} {b = b} x d lc = rw (different-reads v a b .1 d) (skin-count x d lc)
 
-    -- the far edges of v are the edges opposite it in the skin triangles that hold it
-    pub far-reads : (v a b : ℕ) → (farEdge t inside v a b ≡ true) ↔ SkinTriangle t inside v a b
-    unfolding farEdge insideRows
-    far-reads v a b = (
-      λ e.
-          forth (different-reads v a b .0 (and-first (different v a b) (eqb (insideRows v a b) 1) e)) (and-second (different v a b) (eqb (insideRows v a b) 1) e),
-      λ x. and-both (different-reads v a b .1 (x .different)) (sym (skin-count (x .ids) (x .different) (x .corner-below)) ∙ x .on-skin),
-    )
-      where
-        at : Different v a b → eqb (insideRows v a b) 1 ≡ true → (r : ℕ) → r < t .rows → Holds t r v × Holds t r a × Holds t r b → SkinTriangle t inside v a b
-        at d one r l (hv, ha, hb) =
-            let (c, lc, x) = triangle-of r v a b d hv ha hb in
-            record { row = r; corner = c; row-below = l; corner-below = lc; on-skin = skin-count x d lc ∙ one; different = d; ids = x }
+    module _ {In : ℕ → Type 0} (told : (s : ℕ) → (inside s ≡ true) ↔ In s) where
+      -- the far edges of v are the edges opposite it in the skin triangles that hold it
+      pub far-reads : (v a b : ℕ) → (farEdge t inside v a b ≡ true) ↔ SkinTriangle t In v a b
+      unfolding farEdge insideRows
+      far-reads v a b = (
+        λ e.
+            forth (different-reads v a b .0 (and-first (different v a b) (eqb (insideRows v a b) 1) e)) (and-second (different v a b) (eqb (insideRows v a b) 1) e),
+        λ x.
+            and-both (different-reads v a b .1 (x .different))
+            (sym (skin-count (x .ids) (x .different) (x .corner-below)) ∙ skin-reads t inside told (x .row) (x .corner) .1 (x .on-skin)),
+      )
+        where
+          at : Different v a b → eqb (insideRows v a b) 1 ≡ true → (r : ℕ) → r < t .rows → Holds t r v × Holds t r a × Holds t r b → SkinTriangle t In v a b
+          at d one r l (hv, ha, hb) =
+              let (c, lc, x) = triangle-of r v a b d hv ha hb in
+              record { row = r; corner = c; row-below = l; corner-below = lc; on-skin = skin-reads t inside told r c .0 (skin-count x d lc ∙ one); different = d; ids = x }
 
-        forth : Different v a b → eqb (insideRows v a b) 1 ≡ true → SkinTriangle t inside v a b
-        forth d one =
-            let x = count-one (t .rows) (λ s. inside s && holdsThree t v a b s) (eqb-true (insideRows v a b) 1 one) in
-            at d one (x .one) (x .below) (three-reads v a b (x .one) .0 (and-second (inside (x .one)) (holdsThree t v a b (x .one)) (x .is)))
+          forth : Different v a b → eqb (insideRows v a b) 1 ≡ true → SkinTriangle t In v a b
+          forth d one =
+              let x = count-one (t .rows) (λ s. inside s && holdsThree t v a b s) (eqb-true (insideRows v a b) 1 one) in
+              at d one (x .one) (x .below) (three-reads v a b (x .one) .0 (and-second (inside (x .one)) (holdsThree t v a b (x .one)) (x .is)))
 
-    -- v is on the skin exactly if a skin triangle holds it
-    pub skin-vertex-reads : {idCount : ℕ} → Paired t idCount → (v : ℕ)
-        → (skinVertex t inside idCount v ≡ true) ↔ ((r : ℕ) × (c : ℕ) × (k : ℕ) × (r < t .rows) × (c < 4) × (k < 4) × (k ≢ c) × (onSkin t inside r c ≡ true) × (t .id r k ≡ v))
-    unfolding skinVertex farEnd
-    skin-vertex-reads {idCount} paired v = (
-      λ e.
-          let (a, _, p) = any-some idCount (farEnd t inside idCount v) e in
-          let (b, _, q) = any-some idCount (farEdge t inside v a) p in
-          let x = far-reads v a b .0 q in
-          (x .row, x .corner, x .ids .first, x .row-below, x .corner-below, x .ids .first-below, x .ids .first-stays, x .on-skin, x .ids .first-is),
-      λ (r, c, k, lr, lc, lk, ne, on, e). other-corners r c k v lr lc lk ne on e (two-others c k lc lk (Ne·symm ne)),
-    )
-      where
-        other-corners : (r c k v : ℕ) → r < t .rows → c < 4 → k < 4 → k ≢ c → onSkin t inside r c ≡ true → t .id r k ≡ v
-            → ExactlyTwo 4 (λ m. (m ≢ c) × (m ≢ k)) → any idCount (farEnd t inside idCount v) ≡ true
-        other-corners r c k v lr lc lk ne on e x =
-            any-here idCount (farEnd t inside idCount v) (t .id r (x .one)) (paired .below r lr (x .one) (rw four (x .one-below)))
-            (any-here idCount (farEdge t inside v (t .id r (x .one))) (t .id r (x .two)) (paired .below r lr (x .two) (rw four (x .two-below)))
-            (far-reads v (t .id r (x .one)) (t .id r (x .two)) .1 (record {
-              row = r;
-              corner = c;
-              row-below = lr;
-              corner-below = lc;
-              on-skin = on;
-              different = (
-                λ (q : v ≡ t .id r (x .one)). x .one-is .1 (sym (same k (x .one) lk (x .one-below) (e ∙ q))),
-                λ (q : v ≡ t .id r (x .two)). x .two-is .1 (sym (same k (x .two) lk (x .two-below) (e ∙ q))),
-                λ (q : t .id r (x .one) ≡ t .id r (x .two)). x .differ (same (x .one) (x .two) (x .one-below) (x .two-below) q),
-              );
-              ids = record {
-                first = k;
-                second = x .one;
-                third = x .two;
-                first-below = lk;
-                second-below = x .one-below;
-                third-below = x .two-below;
-                first-stays = ne;
-                second-stays = x .one-is .0;
-                third-stays = x .two-is .0;
-                first-is = e;
-                second-is = refl;
-                third-is = refl;
-              };
-            })))
-          where
-            same : (i j : ℕ) → i < 4 → j < 4 → t .id r i ≡ t .id r j → i ≡ j
-            same i j li lj q = one-corner t (paired .rising r lr) i j (rw four li) (rw four lj) q
+      -- v is on the skin exactly if a skin triangle holds it
+      pub skin-vertex-reads : {idCount : ℕ} → Paired t idCount → (v : ℕ) → (skinVertex t inside idCount v ≡ true) ↔ SkinVertex t In v
+      unfolding skinVertex farEnd
+      skin-vertex-reads {idCount} paired v = (
+        λ e.
+            let (a, _, p) = any-some idCount (farEnd t inside idCount v) e in
+            let (b, _, q) = any-some idCount (farEdge t inside v a) p in
+            let x = far-reads v a b .0 q in
+            record {
+              row = x .row;
+              corner = x .corner;
+              at = x .ids .first;
+              row-below = x .row-below;
+              corner-below = x .corner-below;
+              at-below = x .ids .first-below;
+              stays = x .ids .first-stays;
+              on-skin = x .on-skin;
+              is = x .ids .first-is;
+            },
+        λ y. other-corners y (two-others (y .corner) (y .at) (y .corner-below) (y .at-below) (Ne·symm (y .stays))),
+      )
+        where
+          other-corners : (y : SkinVertex t In v) → ExactlyTwo 4 (λ m. (m ≢ y .corner) × (m ≢ y .at)) → any idCount (farEnd t inside idCount v) ≡ true
+          other-corners y x =
+              let r = y .row in
+              any-here idCount (farEnd t inside idCount v) (t .id r (x .one)) (paired .below r (y .row-below) (x .one) (rw four (x .one-below)))
+              (any-here idCount (farEdge t inside v (t .id r (x .one))) (t .id r (x .two)) (paired .below r (y .row-below) (x .two) (rw four (x .two-below)))
+              (far-reads v (t .id r (x .one)) (t .id r (x .two)) .1 (record {
+                row = r;
+                corner = y .corner;
+                row-below = y .row-below;
+                corner-below = y .corner-below;
+                on-skin = y .on-skin;
+                different = (
+                  λ (q : v ≡ t .id r (x .one)). x .one-is .1 (sym (same (y .at) (x .one) (y .at-below) (x .one-below) (y .is ∙ q))),
+                  λ (q : v ≡ t .id r (x .two)). x .two-is .1 (sym (same (y .at) (x .two) (y .at-below) (x .two-below) (y .is ∙ q))),
+                  λ (q : t .id r (x .one) ≡ t .id r (x .two)). x .differ (same (x .one) (x .two) (x .one-below) (x .two-below) q),
+                );
+                ids = record {
+                  first = y .at;
+                  second = x .one;
+                  third = x .two;
+                  first-below = y .at-below;
+                  second-below = x .one-below;
+                  third-below = x .two-below;
+                  first-stays = y .stays;
+                  second-stays = x .one-is .0;
+                  third-stays = x .two-is .0;
+                  first-is = y .is;
+                  second-is = refl;
+                  third-is = refl;
+                };
+              })))
+            where
+              same : (i j : ℕ) → i < 4 → j < 4 → t .id (y .row) i ≡ t .id (y .row) j → i ≡ j
+              same i j li lj q = one-corner t (paired .rising (y .row) (y .row-below)) i j (rw four li) (rw four lj) q
 
 -- far edges have no direction
 pub far-back : (t : Table) (inside : ℕ → Bool) (v a b : ℕ) → farEdge t inside v a b ≡ farEdge t inside v b a

@@ -1,0 +1,134 @@
+-- The three demands, whole, of one run: the bytes of a job file, the four buffers as lent, what was returned, and the buffers as left.
+-- `demands::run`, which is `track::run`, has them for its contract.
+use mathlib.Core.Path.{_≡_}
+use mathlib.Core.Logic.{_↔_, _≢_}
+use mathlib.Core.List.{List, _++_, flatten}
+use Prim.Native.Nat.{ℕ, _+_, _*_, _≤_, _<_}
+use lib.ListN.{length, getD, take, drop, replicate}
+use Rattle.rules.specs.Table.{neighbourList}
+use Rattle.rules.specs.Proposals.{Proposal, RefusedByCases, taken}
+use Rattle.rules.specs.Job.{track, headerOf, Job, jobOf, answersOf, standing, finalOf, skinWith, Lent, workRoom, written, codes, run}
+use Rattle.rules.specs.Made.{withProposals, cutTo, remade}
+use Rattle.rules.specs.Laws.Count.{TheOther}
+use Rattle.rules.specs.Laws.Lists.{Among, Distinct}
+use Rattle.rules.specs.Laws.First.{conditionAt, FirstOf}
+use Rattle.rules.specs.Reading.Neighbours.{Side}
+use Rattle.rules.specs.Reading.Skin.{Inside}
+use Rattle.rules.specs.Reading.Ring.{Clean}
+use Rattle.rules.specs.Reading.Answers.{answerConditions}
+use Rattle.rules.specs.Reading.Codes.{RoomShort, jobConditions}
+use Rattle.rules.specs.Reading.Listing.{ThreeRising, SideTriangle}
+use Rattle.manifold.specs.Steps.{PassesEarlier, flipped, undoing}
+use Rattle.track.specs.declared.Outcome.{Outcome}
+
+-- proposal k of a job, and the marks on which it is judged
+abbrev pub proposalAt : Job → ℕ → Proposal
+proposalAt job k = getD (job .proposals) k (record { row = 0; kind = 0 })
+
+-- the far edges at each skin corner form one single ring
+abbrev pub CleanWith : Job → List ℕ → Type 0
+CleanWith job marks = Clean (job .table) (Inside marks) (job .ids)
+
+-- proposal k passes the tests 1 to 4
+abbrev pub PassesAt : Job → ℕ → Type 0
+PassesAt job k = PassesEarlier (job .table) (standing job k) (proposalAt job k)
+
+module _ (bytes : List ℕ) (before : Lent) (o : Outcome) (after : Lent) where
+  abbrev pub job : Job
+  job = jobOf track bytes
+
+  -- N and P
+  abbrev pub rows : ℕ
+  rows = headerOf bytes .rows
+
+  abbrev pub proposals : ℕ
+  proposals = headerOf bytes .proposals
+
+  -- byte k of answers
+  abbrev pub answerAt : ℕ → ℕ
+  answerAt k = getD (after .answers) k 0
+
+  -- Demand 1. Every job file gets an answer, damaged ones too; the refusals, their order and the contents of each lent buffer after one
+  -- are exactly the listed ones.
+  pub record Demand1 : Type 0 where
+    -- an answer always: a code from 0 to 12
+    pub answered : o .code ≤ codes
+    -- code 1 + i at a place, exactly if row 1 + i of the table of codes holds there and no row before it holds anywhere
+    pub refused-exactly : (i place : ℕ) → i < codes → ((o .code ≡ 1 + i) × (o .place ≡ place)) ↔ FirstOf (jobConditions track bytes before) i place
+    -- code 0 exactly if no row of the table holds
+    pub run-exactly : (o .code ≡ 0) ↔ ((i place : ℕ) → conditionAt (jobConditions track bytes before) i place → ⊥)
+    -- a refusal gives zero for both counts, and changes nothing in answers, final marks and triangles
+    pub refusal-leaves : o .code ≢ 0
+        → (o .taken ≡ 0) × (o .triangles ≡ 0) × (after .answers ≡ before .answers) × (after .finalMarks ≡ before .finalMarks) × (after .triangles ≡ before .triangles)
+    -- codes 1 to 4 don't touch work; codes 5 to 12 leave zero in its first 4N words and the rest unchanged
+    pub work-kept : o .code ≢ 0 → o .code ≤ 4 → after .work ≡ before .work
+    pub work-cleared : 5 ≤ o .code → after .work ≡ replicate (workRoom track (headerOf bytes)) 0 ++ drop (workRoom track (headerOf bytes)) (before .work)
+
+  -- Demand 2. In an accepted job each proposal is answered by the listed tests and Lhuillier's five cases, and the skin list is exactly
+  -- the triangles with one tetrahedron inside and one outside.
+  pub record Demand2 : Type 0 where
+    -- answer k is 1 + i exactly if row 1 + i of the table of answers holds of proposal k on the marks then standing and no row before it
+    -- does, and 0 exactly if none does
+    pub answered-exactly : (k i : ℕ) → k < proposals → i < 5
+        → (answerAt k ≡ 1 + i) ↔ ((place : ℕ) × FirstOf (answerConditions (job .table) (standing job k) (proposalAt job k)) i place)
+    pub taken-exactly : (k : ℕ) → k < proposals
+        → (answerAt k ≡ 0) ↔ ((i place : ℕ) → conditionAt (answerConditions (job .table) (standing job k) (proposalAt job k)) i place → ⊥)
+    -- the marks then standing: at first those of the file; only answer 0 changes a mark, the named one
+    pub starts : standing job 0 ≡ job .marks
+    pub taken-flips : (k : ℕ) → k < proposals → answerAt k ≡ 0 → standing job (k + 1) ≡ flipped (standing job k) (proposalAt job k)
+    pub refused-keeps : (k : ℕ) → k < proposals → answerAt k ≢ 0 → standing job (k + 1) ≡ standing job k
+    pub ends : finalOf job ≡ standing job proposals
+    -- a triangle is listed exactly if of the two rows that hold it one is inside and one outside at the end, whichever of them names it
+    pub listed-exactly : (ids : List ℕ) → Among ids (skinWith job (finalOf job)) ↔ SideTriangle (job .table) (Inside (finalOf job)) ids
+    -- its ids rise, and it is listed once
+    pub ids-rise : (ids : List ℕ) → Among ids (skinWith job (finalOf job)) → ThreeRising ids
+    pub listed-once : Distinct (skinWith job (finalOf job))
+    -- word 4r + c of work is the one other row that holds the triangle of row r that leaves out corner c
+    pub neighbour-at : (r c : ℕ) → r < rows → c < 4 → (other : TheOther rows (Side (job .table) r c) r) × (getD (after .work) (4 * r + c) 0 ≡ other .other)
+    -- the counts: the answers that are 0, and the triangles of the skin
+    pub taken-counted : o .taken ≡ taken (take proposals (after .answers))
+    pub triangles-counted : o .triangles ≡ length (skinWith job (finalOf job))
+    pub place-zero : o .place ≡ 0
+    -- the answers, the final marks, the skin, three ids each, and the neighbour list stand at the front, and all after them is unchanged
+    pub answers-left : after .answers ≡ written (answersOf job) (before .answers)
+    pub marks-left : after .finalMarks ≡ written (finalOf job) (before .finalMarks)
+    pub triangles-left : after .triangles ≡ written (flatten (skinWith job (finalOf job))) (before .triangles)
+    pub work-left : after .work ≡ written (neighbourList (job .table)) (before .work)
+
+  -- the final marks as lent back, and the taken proposals backwards with add and remove exchanged: taken are those whose byte in answers is 0
+  abbrev pub marksBack : List ℕ
+  marksBack = take rows (after .finalMarks)
+
+  abbrev pub backwards : List Proposal
+  backwards = undoing (after .answers) (job .proposals)
+
+  -- Demand 3. For every accepted job, after each proposal the far edges at each skin corner form one single ring; a proposal that passes
+  -- the earlier tests is refused exactly if taking it would break that; and the taken proposals, run backwards with add and remove
+  -- exchanged, are all taken and bring back the start.
+  pub record Demand3 : Type 0 where
+    -- after the first k proposals, for every k; an empty skin is clean (`empty-clean` of `Reading.Listing`)
+    pub every-step : (k : ℕ) → CleanWith job (standing job k)
+    -- so are the final marks lent back
+    pub final-standing : marksBack ≡ standing job proposals
+    pub final-clean : CleanWith job marksBack
+    -- answer k is that of the five cases exactly if the tests 1 to 4 pass and the skin with the named mark flipped is not clean, and 0
+    -- exactly if they pass and it is
+    pub refused-only-then : (k : ℕ) → k < proposals
+        → RefusedByCases (answerAt k) ↔ (PassesAt job k × (CleanWith job (flipped (standing job k) (proposalAt job k)) → ⊥))
+    pub taken-only-then : (k : ℕ) → k < proposals → (answerAt k ≡ 0) ↔ (PassesAt job k × CleanWith job (flipped (standing job k) (proposalAt job k)))
+    -- as many as were taken, so at most P
+    pub as-many : length backwards ≡ o .taken
+    pub no-more : length backwards ≤ proposals
+    -- the job of the same rows with the final marks and these proposals is run, all its answers are 0, and it leaves the starting marks
+    pub undone : (lent : Lent) → (RoomShort track (withProposals (headerOf bytes) (length backwards)) lent → ⊥)
+        → (run track (remade track marksBack backwards bytes) lent .code ≡ 0)
+        × (run track (remade track marksBack backwards bytes) lent .left .answers ≡ written (replicate (length backwards) 0) (lent .answers))
+        × (run track (remade track marksBack backwards bytes) lent .left .finalMarks ≡ written (job .marks) (lent .finalMarks))
+    -- growing stops when the time is up: the job cut to its first k proposals is run, and leaves the marks that stand after them
+    pub cut : (k : ℕ) → k ≤ proposals → (lent : Lent) → (RoomShort track (withProposals (headerOf bytes) k) lent → ⊥)
+        → (run track (cutTo track k bytes) lent .code ≡ 0) × (run track (cutTo track k bytes) lent .left .finalMarks ≡ written (standing job k) (lent .finalMarks))
+
+  pub record Demands : Type 0 where
+    pub one : Demand1
+    pub two : o .code ≡ 0 → Demand2
+    pub three : o .code ≡ 0 → Demand3

@@ -1,0 +1,65 @@
+// Calls whose contract is not an equation of their result: each here with the one result that it leaves. (For the other public calls the
+// contract itself is the equation.)
+use marks::Unfit;
+use marks::check_marks;
+use rings::ringless_vertex;
+use round::turn;
+use table::Broken;
+use values::Found;
+ghost use mathlib.Core.Path.{_≡_};
+ghost use mathlib.Core.Logic.{_≢_};
+ghost use mathlib.Core.Bool.{true};
+ghost use Prim.Native.Nat.{_*_, _≤_};
+ghost use lib.ListN.{length};
+ghost use Rattle.rules.specs.Below.{lowest};
+ghost use Rattle.rules.specs.First.{firstMatch};
+ghost use Rattle.rules.specs.Table.{neighbourList};
+ghost use Rattle.rules.specs.Skin.{ringless};
+ghost use Rattle.rules.specs.Proposals.{insideIn};
+ghost use Rattle.rules.specs.Job.{mostRows, written, tableTests, markTests};
+ghost use Rattle.table.specs.Rows.{tableIn, rowsIn};
+ghost use Rattle.table.specs.Ground.{Grounded};
+ghost use Rattle.table.specs.Closed.{leftOf};
+ghost use Rattle.rings.specs.Far.{Marked};
+ghost use Rattle.round.specs.Edge.{Near};
+ghost use Rattle.demands.specs.Settled.{brokenAt, unfitAt, foundAt};
+
+pub(crate) fn table_checked(rows: &[u8], ids: usize, work: &mut [u32]) -> Broken
+    requires { ⌜ (rowsIn (now rows) ≤ mostRows) × (4 * rowsIn (now rows) ≤ length (now work)) ⌝ }
+    ensures { λ r. ⌜ (r ≡ brokenAt (firstMatch 5 (tableTests (tableIn (now (rows .entry))) ids)))
+        × (now (work .exit) ≡ leftOf (brokenAt (firstMatch 5 (tableTests (tableIn (now (rows .entry))) ids))) (written (neighbourList (tableIn (now (rows .entry)))) (now (work .entry)))) ⌝ }
+{
+    table::check(rows, ids, work)
+}
+
+pub(crate) fn marks_checked(rows: &[u8], neighbours: &[u32], marks: &[u8], ids: usize) -> Unfit
+    requires { ⌜ Marked (now rows) (now neighbours) (now marks) ids ⌝ }
+    ensures { λ r. ⌜ r ≡ unfitAt (firstMatch 10 (markTests (tableIn (now (rows .entry))) ids (now (marks .entry)))) ⌝ }
+{
+    check_marks(rows, neighbours, marks, ids)
+}
+
+pub(crate) fn vertex_found(rows: &[u8], neighbours: &[u32], marks: &[u8], ids: usize) -> Found
+    requires { ⌜ Marked (now rows) (now neighbours) (now marks) ids ⌝ }
+    ensures { λ r. ⌜ r ≡ foundAt (lowest ids (ringless (tableIn (now (rows .entry))) (insideIn (now (marks .entry))) ids)) ⌝ }
+{
+    ringless_vertex(rows, neighbours, marks, ids)
+}
+
+// Two walks about an edge stop alike.
+pub(crate) fn turned_alike(
+    rows: &[u8],
+    neighbours: &[u32],
+    marks: &[u8],
+    a: usize,
+    b: usize,
+    first: usize,
+    second: usize,
+) -> bool
+    requires { ⌜ Grounded (now rows) (now neighbours) × (rowsIn (now rows) ≤ length (now marks)) × (a ≢ b) × Near (tableIn (now rows)) a b second first ⌝ }
+    ensures { λ r. ⌜ r ≡ true ⌝ }
+{
+    let one = turn(rows, neighbours, marks, a, b, first, second);
+    let other = turn(rows, neighbours, marks, a, b, first, second);
+    (one.at == other.at) & (one.next == other.next)
+}
