@@ -9,6 +9,10 @@ use lib.Dec.{eqb}
 use borrow.Author.Tests.{eq-eqb}
 use Rattle.rules.specs.First.{Verdict}
 use Rattle.rules.specs.Laws.Truth.{and-both}
+use Rattle.job.specs.declared.Header.{Header}
+use Rattle.job.specs.declared.Reading.{Reading}
+use Rattle.job.specs.declared.Reading.the-variants as reading
+use Rattle.job.specs.Reading as job
 use Rattle.values.specs.declared.Found.{Found}
 use Rattle.values.specs.declared.Found.the-variants.{At, Nowhere}
 use Rattle.values.specs.Search.{placeOf}
@@ -18,6 +22,21 @@ use Rattle.table.specs.Closed as closed
 use Rattle.marks.specs.declared.Unfit.{Unfit}
 use Rattle.marks.specs.declared.Unfit.the-variants as unfit
 use Rattle.marks.specs.Start as start
+
+-- ---- `job::read`
+
+unfoldable pub readingAt : Verdict → Header → Reading
+readingAt v h = cond (eqb (v .code) 1) reading.Short (cond (eqb (v .code) 2) reading.Limits (cond (eqb (v .code) 3) reading.Layout (reading.Laid h)))
+
+pub reading-is : (r : Reading) {v : Verdict} {h : Header} → (job.verdictOf r ≡ v) × (job.headerIn r h ≡ h) → r ≡ readingAt v h
+unfolding readingAt
+reading-is r {h = h} (e, held) = back r held ∙ ap (λ (v : Verdict). readingAt v h) e
+  where
+    back : (r : Reading) → job.headerIn r h ≡ h → r ≡ readingAt (job.verdictOf r) h
+    back reading.Short held = refl
+    back reading.Limits held = refl
+    back reading.Layout held = refl
+    back (reading.Laid g) held = ap reading.Laid held
 
 -- ---- a search, as `rings::ringless_vertex`
 

@@ -1,5 +1,6 @@
 // Calls whose contract is not an equation of their result: each here with the one result that it leaves. (For the other public calls the
 // contract itself is the equation.)
+use job::Reading;
 use marks::Unfit;
 use marks::check_marks;
 use rings::ringless_vertex;
@@ -16,13 +17,20 @@ ghost use Rattle.rules.specs.First.{firstMatch};
 ghost use Rattle.rules.specs.Table.{neighbourList};
 ghost use Rattle.rules.specs.Skin.{ringless};
 ghost use Rattle.rules.specs.Proposals.{insideIn};
-ghost use Rattle.rules.specs.Job.{mostRows, written, tableTests, markTests};
+ghost use Rattle.rules.specs.Job.{track, mostRows, written, layoutTests, tableTests, markTests};
+ghost use Rattle.job.specs.Reading.{header};
 ghost use Rattle.table.specs.Rows.{tableIn, rowsIn};
 ghost use Rattle.table.specs.Ground.{Grounded};
 ghost use Rattle.table.specs.Closed.{leftOf};
 ghost use Rattle.rings.specs.Far.{Marked};
 ghost use Rattle.round.specs.Edge.{Near};
-ghost use Rattle.demands.specs.Settled.{brokenAt, unfitAt, foundAt};
+ghost use Rattle.demands.specs.Settled.{readingAt, brokenAt, unfitAt, foundAt};
+
+pub(crate) fn header_read(job: &[u8]) -> Reading
+    ensures { λ r. ⌜ r ≡ readingAt (firstMatch 1 (layoutTests track (now (job .entry)))) (header (now (job .entry))) ⌝ }
+{
+    job::read(job)
+}
 
 pub(crate) fn table_checked(rows: &[u8], ids: usize, work: &mut [u32]) -> Broken
     requires { ⌜ (rowsIn (now rows) ≤ mostRows) × (4 * rowsIn (now rows) ≤ length (now work)) ⌝ }

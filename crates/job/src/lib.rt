@@ -3,8 +3,9 @@ use words::word_at;
 ghost use mathlib.Core.Path.{_≡_};
 ghost use Prim.Native.Nat.{_+_, _*_, _≤_, _<_};
 ghost use lib.ListN.{length};
-ghost use Rattle.rules.specs.Job.{track, headerWord, mostRows, mostProposals, within, withinLimits, laidOut, rowsAt, marksAt, proposalsAt, wholeLength, workRoom, listRoom, shortRooms};
-ghost use Rattle.job.specs.Reading.{meant, header, readingOf};
+ghost use Rattle.rules.specs.First.{firstMatch};
+ghost use Rattle.rules.specs.Job.{track, headerWord, mostRows, mostProposals, within, withinLimits, laidOut, rowsAt, marksAt, proposalsAt, wholeLength, workRoom, listRoom, shortRooms, layoutTests};
+ghost use Rattle.job.specs.Reading.{meant, header, verdictOf, headerIn};
 
 // V, N, P and word 7.
 pub struct Header {
@@ -131,7 +132,7 @@ fn laid_out(h: Header, job: &[u8]) -> bool
 
 // The header, or the first of the refusals 1 to 3.
 pub fn read(job: &[u8]) -> Reading
-    ensures { λ r. ⌜ r ≡ readingOf (now (job .entry)) ⌝ }
+    ensures { λ r. ⌜ (verdictOf r ≡ firstMatch 1 (layoutTests track (now (job .entry)))) × (headerIn r (header (now (job .entry))) ≡ header (now (job .entry))) ⌝ }
 {
     if job.len() < 32 {
         return Reading::Short;

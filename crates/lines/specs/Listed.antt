@@ -1,33 +1,30 @@
 -- What a run gives, and the listing of it.
 use mathlib.Core.Path.{_≡_, refl, sym, ap, _∙_}
 use mathlib.Core.Logic.{_≢_}
+use mathlib.Core.Bool.{cond}
 use mathlib.Core.List.{List, flatten}
 use Prim.Native.Nat.{ℕ, _+_, _*_, _≤_}
 use native.Mathlib.Omega.{arith}
+use lib.Dec.{eqb}
 use lib.ListN.{length, replicate, length-replicate}
-use borrow.Author.Tests.{le-ltb, ne-eqb}
+use borrow.Author.Tests.{ne-eqb}
+use Rattle.rules.specs.First.{firstMatch}
 use Rattle.rules.specs.Proposals.{insideIn, taken}
-use Rattle.rules.specs.Job.{track, headerOf, mostRows, mostProposals, rowsAt, jobOf, answersOf, finalOf, skinWith, Result, written, accepted, run}
+use Rattle.rules.specs.Job.{track, headerOf, mostRows, mostProposals, jobOf, answersOf, finalOf, skinWith, layoutTests, Result, written, accepted, run}
 use Rattle.rules.specs.Laws.Job.{job-corners, job-answers}
 use Rattle.rules.specs.Laws.Lists.{gather-same}
 use Rattle.rules.specs.Laws.Written.{written-at}
 use Rattle.rules.specs.Reading.Room.{skin-words}
-use Rattle.rules.specs.Reading.Codes.{limits-read, laid-out-reads, run-accepted, run-code, accepted-header}
+use Rattle.rules.specs.Reading.Codes.{run-accepted, run-code, layout-passed, accepted-header}
 use Rattle.rules.specs.Reading.Small.{triangles-small}
-use Rattle.job.specs.declared.Reading.{Reading}
-use Rattle.job.specs.declared.Reading.the-variants.{Short, Limits, Layout, Laid}
-use Rattle.job.specs.Reading.{header, readingOf}
 use Rattle.track.specs.declared.Outcome.{Outcome}
 use Rattle.track.specs.Outcomes.{lent, result}
 use Rattle.lines.specs.Listing.{answerLine, answerLines, triangleLine, triangleLines, doneText, refusedText, listing, zeros, listingOf}
 use Rattle.lines.specs.Put.{Put, put-front}
 
 -- P, if the header is laid out
-abbrev pub proposalsRead : Reading → ℕ
-proposalsRead Short = 0
-proposalsRead Limits = 0
-proposalsRead Layout = 0
-proposalsRead (Laid h) = h .proposals
+abbrev pub proposalsRead : List ℕ → ℕ
+proposalsRead job = cond (eqb (firstMatch 1 (layoutTests track job) .code) 0) (headerOf job .proposals) 0
 
 -- the listing of a job at the front of a buffer
 pub listed : (job : List ℕ) {text out out′ : List ℕ} {n : ℕ} → text ≡ listingOf job → Put text out 0 out′ n → n ≤ length out
@@ -48,19 +45,13 @@ module _ (job : List ℕ) {o : Outcome} {answers marks triangles work : List ℕ
     ran : run track job zeros .code ≡ 0
     ran = sym (ap (λ (r : Result). r .code) is-run) ∙ z
 
-    laid : readingOf job ≡ Laid (header job)
-    unfolding readingOf
-    laid =
-        let (limits, out) = accepted-header track job zeros ran in
-        rw (le-ltb (length job) rowsAt (omega (arith, out .1, out .0 .0 .1)), limits-read track (headerOf job) .1 limits, laid-out-reads track (headerOf job) job .1 out)
-
     few-triangles : o .triangles ≤ 2 * mostRows
     few-triangles = omega (arith, ap (λ (r : Result). r .triangles) is-run, triangles-small track job zeros refl)
 
     -- p was read from the header
-    module _ {p : ℕ} (ep : p ≡ proposalsRead (readingOf job)) where
+    module _ {p : ℕ} (ep : p ≡ proposalsRead job) where
       the-proposals : p ≡ headerOf job .proposals
-      the-proposals = ep ∙ ap proposalsRead laid
+      the-proposals = ep ∙ rw (layout-passed track job zeros ran)
 
       few-proposals : p ≤ mostProposals
       few-proposals = rw the-proposals (accepted-header track job zeros ran .0 .1 .1)

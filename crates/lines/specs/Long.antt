@@ -6,18 +6,16 @@ use mathlib.Core.List.{List}
 use Prim.Native.Nat.{ℕ, _+_, _≤_}
 use native.Mathlib.Nat.{zero-add}
 use native.Mathlib.Omega.{arith}
-use lib.Dec.{leb}
 use lib.ListN.{length, take}
 use lib.Seq.{length-take-le}
 use borrow.Author.Tests.{le-ltb, ne-eqb}
+use Rattle.rules.specs.Below.{found}
+use Rattle.rules.specs.First.{given, Verdict, firstMatch}
 use Rattle.rules.specs.Words.{word}
-use Rattle.rules.specs.Job.{Header, track, headerOf, withinLimits, rowsAt, laidOut}
+use Rattle.rules.specs.Job.{Header, track, headerOf, withinLimits, rowsAt, laidOut, layoutTests}
 use Rattle.rules.specs.Laws.Truth.{true-or-false, is-false}
 use Rattle.rules.specs.Laws.Words.{word-part}
 use Rattle.rules.specs.Reading.Codes.{limits-read, laid-out-reads}
-use Rattle.job.specs.declared.Reading.{Reading}
-use Rattle.job.specs.declared.Reading.the-variants.{Limits, Layout}
-use Rattle.job.specs.Reading.{codeOf, readingOf}
 use Rattle.track.specs.Headers.{header-refused}
 use Rattle.lines.specs.Listing.{refusedText, listing, zeros, listingOf}
 
@@ -30,16 +28,16 @@ module _ (job : List ℕ) (long : 65536 ≤ length job) where
       let out = laid-out-reads track (headerOf job) job .0 l in
       omega (arith, out .1, out .0 .0 .1))
 
-  refused : {r : Reading} → r ≡ readingOf job → codeOf r ≢ 0 → leb (codeOf r) 4 ≡ true → listingOf job ≡ refusedText (codeOf r) 0
+  refused : {v : Verdict} → v ≡ firstMatch 1 (layoutTests track job) → v .code ≢ 0 → listingOf job ≡ refusedText (v .code) (v .place)
   unfolding listingOf listing
-  refused {r} e ne small = rw (← header-refused job zeros e refl ne small, ne-eqb (codeOf r) 0 ne)
+  refused {v} e ne = rw (← header-refused job zeros e ne refl, ne-eqb (v .code) 0 ne)
 
   long-refused : listingOf job ≡ cond (withinLimits track (headerOf job)) (refusedText 3 0) (refusedText 2 0)
-  unfolding readingOf
+  unfolding layoutTests firstMatch given found
   long-refused =
       let whole = le-ltb (length job) rowsAt (omega arith) in
-      ⊎-elim (λ (w : withinLimits track (headerOf job) ≡ true). refused {r = Layout} (rw (whole, w, not-laid-out w)) (λ z. omega arith) refl ∙ rw w)
-      (λ (o : withinLimits track (headerOf job) ≡ false). refused {r = Limits} (rw (whole, o)) (λ z. omega arith) refl ∙ rw o)
+      ⊎-elim (λ (w : withinLimits track (headerOf job) ≡ true). refused {v = record { code = 3; place = 0 }} (rw (whole, w, not-laid-out w)) (λ z. omega arith) ∙ rw w)
+      (λ (o : withinLimits track (headerOf job) ≡ false). refused {v = record { code = 2; place = 0 }} (rw (whole, o)) (λ z. omega arith) ∙ rw o)
       (true-or-false (withinLimits track (headerOf job)))
 
 same-word : (n : ℕ) (input : List ℕ) (place : ℕ) → place + 4 ≤ n → word 4 (take n input) place ≡ word 4 input place

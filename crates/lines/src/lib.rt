@@ -11,7 +11,6 @@ ghost use mathlib.Core.Path.{_≡_};
 ghost use Prim.Native.Nat.{_≤_};
 ghost use lib.ListN.{length};
 ghost use Rattle.rules.specs.Job.{written};
-ghost use Rattle.job.specs.Reading.{readingOf};
 ghost use Rattle.lines.specs.Listing.{refusedText, listingOf};
 ghost use Rattle.lines.specs.Put.{Put};
 ghost use Rattle.lines.specs.Listed.{proposalsRead};
@@ -29,7 +28,7 @@ fn put_refused(code: usize, place: usize, out: &mut [u8]) -> usize
 
 // P of a job that is laid out.
 fn proposals_of(job: &[u8]) -> usize
-    ensures { λ r. ⌜ r ≡ proposalsRead (readingOf (now (job .entry))) ⌝ }
+    ensures { λ r. ⌜ r ≡ proposalsRead (now (job .entry)) ⌝ }
 {
     match read(job) {
         Reading::Short => 0,

@@ -9,19 +9,19 @@ use native.Mathlib.Nat.{le-refl}
 use lib.Dec.{leb, lit<, lit≤}
 use lib.ListN.{length, take, drop}
 use lib.Seq.{length-take-le}
-use borrow.Author.Tests.{ne-eqb}
+use borrow.Author.Tests.{ne-eqb, le-leb}
 use Rattle.rules.specs.Below.{found}
 use Rattle.rules.specs.Table.{tableOf, neighbourList}
 use Rattle.rules.specs.First.{Test, given, Verdict, firstMatch}
 use Rattle.rules.specs.Job.{track, headerOf, withinLimits, laidOut, shortRooms, roomShort, mostRows, workRoom, rowsTable, jobOf, layoutTests, roomTests, sectionTests, jobTests, Lent, refused, Result, verdictOn, run}
 use Rattle.rules.specs.Laws.Truth.{not-both}
-use Rattle.rules.specs.Laws.First.{match-append, match-front, match-here, match-later}
+use Rattle.rules.specs.Laws.First.{match-append, match-below, match-front, match-here, match-later}
 use Rattle.rules.specs.Reading.Closed.{list-length}
 use Rattle.rules.specs.Reading.Codes.{limits-read, laid-out-reads, RoomShort, room-reads}
 use Rattle.job.specs.declared.Header.{Header}
 use Rattle.job.specs.declared.Reading.{Reading}
 use Rattle.job.specs.declared.Reading.the-variants.{Laid}
-use Rattle.job.specs.Reading.{meant, header, codeOf, readingOf, reading-verdict, laid-header}
+use Rattle.job.specs.Reading.{meant, header, verdictOf, headerIn, laid-header}
 use Rattle.track.specs.declared.Outcome.{Outcome}
 use Rattle.track.specs.Outcomes.{lent, result, refusal}
 use Rattle.track.specs.Stages as stages
@@ -36,29 +36,22 @@ module _ (job : List ℕ) (buffers : Lent) where
   early {v} e ne small = sym (sym (run-decided job buffers) ∙ rw (e, ne-eqb (v .code) 0 ne, small))
 
   -- a header that is not laid out
-  pub header-refused : {r : Reading} → r ≡ readingOf job → {o : Outcome} → o ≡ refusal (record { code = codeOf r; place = 0 }) → codeOf r ≢ 0 → leb (codeOf r) 4 ≡ true
-      → result o buffers ≡ run track job buffers
-  unfolding verdictOn jobTests
-  header-refused {r} is told ne small = rw told (early verdict ne small)
-    where
-      layout : firstMatch 1 (layoutTests track job) ≡ record { code = codeOf r; place = 0 }
-      layout = reading-verdict job ∙ ap (λ (x : Reading). record { code = codeOf x; place = 0 }) (sym is)
+  pub header-refused : {v : Verdict} → v ≡ firstMatch 1 (layoutTests track job) → v .code ≢ 0 → {o : Outcome} → o ≡ refusal v → result o buffers ≡ run track job buffers
+  unfolding verdictOn jobTests layoutTests
+  header-refused {v} is ne told =
+      let small = match-below 1 (lit< tt) (layoutTests track job) in
+      rw told (early (match-front 1 (layoutTests track job) _ (rw is at ne) ∙ sym is) ne (le-leb (v .code) 4 (rw is (omega arith))))
 
-      verdict : firstMatch 1 (layoutTests track job ++ (roomTests track (headerOf job) buffers ++ rest)) ≡ record { code = codeOf r; place = 0 }
-      verdict = match-front 1 (layoutTests track job) (roomTests track (headerOf job) buffers ++ rest) (λ z. ne (ap (λ (v : Verdict). v .code) (sym layout) ∙ z)) ∙ layout
-
-  module _ {r : Reading} (is : r ≡ readingOf job) {h : Header} (laid : r ≡ Laid h) where
+  module _ {r : Reading} (is : (verdictOf r ≡ firstMatch 1 (layoutTests track job)) × (headerIn r (header job) ≡ header job)) {h : Header} (laid : r ≡ Laid h) where
     facts : (h ≡ header job) × (withinLimits track (headerOf job) ≡ true) × (laidOut track (headerOf job) job ≡ true)
-    facts = laid-header job h (sym is ∙ laid)
+    facts = laid-header job is laid
 
     pub few-rows : h .rows ≤ mostRows
     few-rows = let ((_, (_, n)), _) = limits-read track (headerOf job) .0 (facts .1) in rw (facts .0) n
 
     from-room : verdictOn track job buffers ≡ firstMatch 4 (roomTests track (headerOf job) buffers ++ rest)
     unfolding verdictOn jobTests layoutTests
-    from-room =
-        match-append 1 (lit< tt) (layoutTests track job) (roomTests track (headerOf job) buffers ++ rest)
-        (ap (λ (v : Verdict). v .code) (reading-verdict job) ∙ ap codeOf (sym is ∙ laid))
+    from-room = match-append 1 (lit< tt) (layoutTests track job) _ (ap (λ (v : Verdict). v .code) (sym (rw laid at (is .0))))
 
     module _ {short : Bool} (told-short : short ≡ shortRooms track (meant h) (length (buffers .answers)) (length (buffers .finalMarks)) (length (buffers .triangles)) (length (buffers .work))) where
       short-is : short ≡ roomShort track (headerOf job) buffers

@@ -11,7 +11,7 @@ use lib.ListN.{getD}
 use borrow.Author.Tests.{eqb-true, eq-eqb, eqb-false, ne-eqb, ltb-true, lt-ltb, not-true}
 use Rattle.rules.specs.Below.{all, bit, sum, count, gather, tabulate, only, pick}
 use Rattle.rules.specs.Shape.{facet, triangleTable, edgeTable, oppositeTable}
-use Rattle.rules.specs.Laws.Truth.{not-both, and-first, and-second, and-both, or-either, or-first, or-second, or-no-first, or-no-second, same-or-not}
+use Rattle.rules.specs.Laws.Truth.{not-both, and-first, and-second, or-either, or-first, or-second, or-no-first, or-no-second, same-or-not}
 use Rattle.rules.specs.Laws.Below.{all-each}
 use Rattle.rules.specs.Laws.Count.{ExactlyOne, ExactlyTwo, one-map, two-map, count-one, count-two}
 use Rattle.rules.specs.Laws.Lists.{Among}
@@ -52,13 +52,6 @@ same-face (a ∷ as′) (b ∷ bs) t =
     let first : a ≡ b = eqb-true a b (and-first (eqb a b) (sameFace as′ bs) t) in
     let rest : as′ ≡ bs = same-face as′ bs (and-second (eqb a b) (sameFace as′ bs) t) in
     cc
-
-is-same-face : (xs ys : List ℕ) → xs ≡ ys → sameFace xs ys ≡ true
-is-same-face xs ys e = rw e (self ys)
-  where
-    self : (zs : List ℕ) → sameFace zs zs ≡ true
-    self [] = refl
-    self (z ∷ zs) = and-both (eq-eqb z z refl) (self zs)
 
 abbrev inFaces : List ℕ → List (List ℕ) → Bool
 inFaces face [] = false

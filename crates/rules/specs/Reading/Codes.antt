@@ -60,6 +60,15 @@ module _ (f : Form) where
       (eqb-reads (headerWord bytes 6) (wholeLength f h))) (eqb-reads (h .mode) (f .mode)))
       (eqb-reads (headerWord bytes 6) (length bytes))
 
+  -- where none of the codes 1 to 3 is given, the header is within its limits and laid out
+  pub laid-passed : (bytes : List ℕ) → firstMatch 1 (layoutTests f bytes) .code ≡ 0 → (withinLimits f (headerOf bytes) ≡ true) × (laidOut f (headerOf bytes) bytes ≡ true)
+  unfolding layoutTests
+  laid-passed bytes e =
+      let (_, e2) = match-zero 1 (zero-lt-suc 0) _ _ e in
+      let (n2, e3) = match-zero 2 (zero-lt-suc 1) _ _ e2 in
+      let (n3, _) = match-zero 3 (zero-lt-suc 2) _ _ e3 in
+      (not-false (withinLimits f (headerOf bytes)) (given-none _ n2), not-false (laidOut f (headerOf bytes) bytes) (given-none _ n3))
+
   -- answers under P bytes, final marks under N bytes, and for a track triangles under 6N words, work under 4N words
   abbrev pub RoomShort : Header → Lent → Type 0
   RoomShort h lent =
@@ -302,7 +311,7 @@ module _ (f : Form) (bytes : List ℕ) (lent : Lent) where
   -- ---- what an accepted job keeps
 
   module _ (ran : run f bytes lent .code ≡ 0) where
-    layout-passed : firstMatch 1 (layoutTests f bytes) .code ≡ 0
+    pub layout-passed : firstMatch 1 (layoutTests f bytes) .code ≡ 0
     unfolding verdictOn jobTests
     layout-passed = match-parts 1 (zero-lt-suc 0) (layoutTests f bytes) _ (sym run-code ∙ ran) .0
 
@@ -353,15 +362,9 @@ module _ (f : Form) (bytes : List ℕ) (lent : Lent) where
 
     -- the header is within its limits and laid out as it says
     pub accepted-header : WithinLimits f (headerOf bytes) × LaidOut f (headerOf bytes) bytes
-    unfolding layoutTests
     accepted-header =
-        let h = headerOf bytes in
-        let (_, e2) = match-zero 1 (zero-lt-suc 0) _ _ layout-passed in
-        let (n2, e3) = match-zero 2 (zero-lt-suc 1) _ _ e2 in
-        let (n3, _) = match-zero 3 (zero-lt-suc 2) _ _ e3 in (
-          limits-read f h .0 (not-false (withinLimits f h) (given-none (not (withinLimits f h)) n2)),
-          laid-out-reads f h bytes .0 (not-false (laidOut f h bytes) (given-none (not (laidOut f h bytes)) n3)),
-        )
+        let (limits, laid) = laid-passed f bytes layout-passed in
+        (limits-read f (headerOf bytes) .0 limits, laid-out-reads f (headerOf bytes) bytes .0 laid)
 
     -- one mark for each row
     pub accepted-length : length (jobOf f bytes .marks) ≡ jobOf f bytes .table .rows

@@ -1,10 +1,7 @@
 use lib.Seq.{length-take-le}
-use lib.Dec.{leb}
-use Prim.Native.Nat.{ℕ}
-use Rattle.track.specs.Outcomes.{refusal, lent}
-use Rattle.job.specs.Reading.{codeOf}
+use Rattle.track.specs.Outcomes.{lent}
 use native.Mathlib.Omega.{arith}
-use mathlib.Core.Path.{ap, sym, _∙_}
+use mathlib.Core.Path.{sym}
 use Rattle.track.specs.Headers.{header-refused, few-rows, room-refused, laid-out, work-fits, room-enough}
 use borrow.Author.Needs.{needs}
 use Rattle.track.proofs.run.Statement.{statement}
@@ -37,19 +34,13 @@ run-laid-requires : tie.Need-run-laid-requires
 run-laid-requires c κs = rw (c .before .before .before .before .work-room .ensures) (laid-out _ (lent _ _ _ _) (c .before .before .before .before .before .before .before .before .before .before .read .ensures) (c .before .before .before .before .before .before .before .before .h .given .1) (c .before .before .before .before .before .before .room-short .ensures) (c .before .before .before .before .before .if1 .left))
 
 returns-2 : tie.Need-returns-2
-returns-2 c =
-    let at-enum-told = c .before in
-    header-refused _ (lent _ _ _ _) (at-enum-told .before .before .read .ensures) (c .refused .ensures ∙ ap (λ (n : ℕ). refusal (record { code = n; place = 0 })) (sym (ap codeOf (at-enum-told .enum-told .given .1)))) (λ z. omega (arith, (ap codeOf (at-enum-told .enum-told .given .1)), z)) (ap (λ (n : ℕ). leb n 4) (ap codeOf (at-enum-told .enum-told .given .1)))
+returns-2 c = header-refused _ (lent _ _ _ _) (rw (c .before .enum-told .given .1) at (c .before .before .before .read .ensures .0)) (λ z. omega arith) (c .refused .ensures)
 
 returns-3 : tie.Need-returns-3
-returns-3 c =
-    let at-enum-told2 = c .before in
-    header-refused _ (lent _ _ _ _) (at-enum-told2 .before .before .read .ensures) (c .refused2 .ensures ∙ ap (λ (n : ℕ). refusal (record { code = n; place = 0 })) (sym (ap codeOf (at-enum-told2 .enum-told2 .given .1)))) (λ z. omega (arith, (ap codeOf (at-enum-told2 .enum-told2 .given .1)), z)) (ap (λ (n : ℕ). leb n 4) (ap codeOf (at-enum-told2 .enum-told2 .given .1)))
+returns-3 c = header-refused _ (lent _ _ _ _) (rw (c .before .enum-told2 .given .1) at (c .before .before .before .read .ensures .0)) (λ z. omega arith) (c .refused2 .ensures)
 
 returns-4 : tie.Need-returns-4
-returns-4 c =
-    let at-enum-told3 = c .before in
-    header-refused _ (lent _ _ _ _) (at-enum-told3 .before .before .read .ensures) (c .refused3 .ensures ∙ ap (λ (n : ℕ). refusal (record { code = n; place = 0 })) (sym (ap codeOf (at-enum-told3 .enum-told3 .given .1)))) (λ z. omega (arith, (ap codeOf (at-enum-told3 .enum-told3 .given .1)), z)) (ap (λ (n : ℕ). leb n 4) (ap codeOf (at-enum-told3 .enum-told3 .given .1)))
+returns-4 c = header-refused _ (lent _ _ _ _) (rw (c .before .enum-told3 .given .1) at (c .before .before .before .read .ensures .0)) (λ z. omega arith) (c .refused3 .ensures)
 
 returns-5 : tie.Need-returns-5
 returns-5 c =
