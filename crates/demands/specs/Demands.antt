@@ -17,11 +17,11 @@ use Rattle.rules.specs.Reading.Skin.{Inside}
 use Rattle.rules.specs.Reading.Ring.{Clean}
 use Rattle.rules.specs.Reading.Answers.{answerConditions}
 use Rattle.rules.specs.Reading.Codes.{RoomShort, jobConditions}
-use Rattle.rules.specs.Reading.Listing.{ThreeRising, SideTriangle}
+use Rattle.rules.specs.Reading.Listing.{ThreeRising, SideTriangle, InOrder}
 use Rattle.manifold.specs.Steps.{PassesEarlier, flipped, undoing}
 use Rattle.track.specs.declared.Outcome.{Outcome}
 
--- proposal k of a job, and the marks on which it is judged
+-- proposal k of a job
 abbrev pub proposalAt : Job → ℕ → Proposal
 proposalAt job k = getD (job .proposals) k (record { row = 0; kind = 0 })
 
@@ -80,9 +80,10 @@ module _ (bytes : List ℕ) (before : Lent) (o : Outcome) (after : Lent) where
     pub ends : finalOf job ≡ standing job proposals
     -- a triangle is listed exactly if of the two rows that hold it one is inside and one outside at the end, whichever of them names it
     pub listed-exactly : (ids : List ℕ) → Among ids (skinWith job (finalOf job)) ↔ SideTriangle (job .table) (Inside (finalOf job)) ids
-    -- its ids rise, and it is listed once
+    -- its ids rise, it is listed once, and the list goes by inside row, then left-out corner
     pub ids-rise : (ids : List ℕ) → Among ids (skinWith job (finalOf job)) → ThreeRising ids
     pub listed-once : Distinct (skinWith job (finalOf job))
+    pub in-order : InOrder (job .table) (Inside (finalOf job)) (skinWith job (finalOf job))
     -- word 4r + c of work is the one other row that holds the triangle of row r that leaves out corner c
     pub neighbour-at : (r c : ℕ) → r < rows → c < 4 → (other : TheOther rows (Side (job .table) r c) r) × (getD (after .work) (4 * r + c) 0 ≡ other .other)
     -- the counts: the answers that are 0, and the triangles of the skin

@@ -18,7 +18,7 @@ use Rattle.rules.specs.Reading.Closed.{Closed, across-is, across-other, list-le
 use Rattle.rules.specs.Reading.Answers.{answer-exactly, taken-exactly}
 use Rattle.rules.specs.Reading.Skin.{inside-reads}
 use Rattle.rules.specs.Reading.Room.{skin-once, skin-listed}
-use Rattle.rules.specs.Reading.Listing.{triangle-rises, sides-listed}
+use Rattle.rules.specs.Reading.Listing.{triangle-rises, sides-listed, skin-order}
 use Rattle.rules.specs.Reading.Codes.{run-accepted, run-code, accepted-closed}
 use Rattle.manifold.specs.Steps.{after-taken, after-refused}
 use Rattle.track.specs.declared.Outcome.{Outcome}
@@ -123,6 +123,7 @@ module _ (bytes : List ℕ) (before : Lent) {o : Outcome} {after : Lent} (ran : 
             let (a, b, c, ab, bc, e) = triangle-rises t four (job-closed .paired) (x .row) (x .corner) (x .row-below) (rw four at (x .corner-below)) in
             (a, b, c, ab, bc, x .ids-are ∙ e);
         listed-once = skin-once t (insideIn (finalOf job)) (job-closed .paired) four;
+        in-order = skin-order t four (job-closed .paired) (insideIn (finalOf job)) told;
         neighbour-at =
             subst (λ (n : ℕ). (r c : ℕ) → r < n → c < 4 → (other : TheOther n (Side t r c) r) × (getD (after .work) (4 * r + c) 0 ≡ other .other)) (job-rows track bytes) neighbour;
         taken-counted = taken-told;

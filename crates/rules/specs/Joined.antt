@@ -1,4 +1,4 @@
--- Connectedness: any two members are joined by a chain of members, each next to the one before it (`Reading.Joined` says so).
+-- Connectedness: any two members are joined by a chain of members, each next to the one before it (`Laws.Joined` says so).
 use Prim.Native.Nat.{ℕ, zero, suc}
 use mathlib.Core.Bool.{Bool, true, false, not, cond}
 use mathlib.Core.List.{List, [], _∷_, _++_}

@@ -4,8 +4,8 @@
 use common::Buffers;
 use jobs::Job;
 use std::fmt::Debug;
-use std::fs;
 use std::path::PathBuf;
+use std::{env, fs, thread};
 
 /// Compares jobs and counts what they came to.
 pub struct Comparer {
@@ -78,4 +78,20 @@ fn first_difference<T: PartialEq + Debug>(what: &str, track: &[T], plain: &[T]) 
         "{what} {at} is {:?} by track and {:?} by plain",
         track[at], plain[at]
     ))
+}
+
+/// Gives the engine stack to spare, whatever a test thread has.
+pub fn with_stack(test: impl FnOnce() + Send + 'static) {
+    let thread = thread::Builder::new().stack_size(8 << 20).spawn(test);
+    if let Err(panic) = thread.expect("a thread").join() {
+        std::panic::resume_unwind(panic);
+    }
+}
+
+/// A number from the environment.
+pub fn setting(name: &str, usual: u64) -> u64 {
+    match env::var(name) {
+        Ok(value) => value.parse().expect(name),
+        Err(_) => usual,
+    }
 }

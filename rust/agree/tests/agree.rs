@@ -1,30 +1,15 @@
 //! The proved engine against `plain`. AGREE_JOBS sets the number of random
 //! jobs and AGREE_SEED the number of the first.
 
-use agree::Comparer;
+use agree::{setting, with_stack, Comparer};
 use common::{Rooms, FEWEST_IDS, MOST_IDS, MOST_PROPOSALS, MOST_ROWS};
 use jobs::{cases, tables, Job, Random, Table};
-use std::{env, fs, thread};
+use std::fs;
 
 const STORED: &str = concat!(env!("CARGO_MANIFEST_DIR"), "/../../jobs");
 
-/// Gives the engine stack to spare, whatever a test thread has.
-fn with_stack(test: impl FnOnce() + Send + 'static) {
-    let thread = thread::Builder::new().stack_size(8 << 20).spawn(test);
-    if let Err(panic) = thread.expect("a thread").join() {
-        std::panic::resume_unwind(panic);
-    }
-}
-
 fn comparer() -> Comparer {
     Comparer::new(env!("CARGO_TARGET_TMPDIR"))
-}
-
-fn setting(name: &str, usual: u64) -> u64 {
-    match env::var(name) {
-        Ok(value) => value.parse().expect(name),
-        Err(_) => usual,
-    }
 }
 
 fn compare_case(comparer: &mut Comparer, number: u64, most: usize) {

@@ -1,8 +1,8 @@
 -- Laws of gathered, tabulated and picked lists, and of parts.
-use mathlib.Core.Path.{_≡_, refl, sym, ap, _∙_, subst, fun-ext}
+use mathlib.Core.Path.{_≡_, refl, sym, ap, ap₂, _∙_, subst, fun-ext}
 use mathlib.Core.Logic.{⊎-elim}
 use mathlib.Core.Bool.{Bool, true, false}
-use mathlib.Core.List.{List, [], _∷_, _++_, List·Memᴰ, List·Memᴰ·head, List·Memᴰ·tail, List·Memᴰ·not-nil, List·Memᴰ·append-cases, List·Memᴰ·eq-of-singleton, Memᴰ·append-left, Memᴰ·append-right, append-nil, append-assoc, flatten}
+use mathlib.Core.List.{List, [], _∷_, _++_, map, map-append, List·Memᴰ, List·Memᴰ·head, List·Memᴰ·tail, List·Memᴰ·not-nil, List·Memᴰ·append-cases, List·Memᴰ·eq-of-singleton, Memᴰ·append-left, Memᴰ·append-right, append-nil, append-assoc, flatten}
 use Prim.Native.Nat.{ℕ, zero, suc, _+_, _-_, _*_, _≤_, _<_}
 use native.Mathlib.Nat.{le-of-suc-le-suc, not-suc-le-zero, eq-or-lt-of-le, le-refl, le-step, lt-irrefl, add-zero, add-suc, mul-zero, mul-suc}
 use native.Mathlib.Numerals.{add-one}
@@ -167,3 +167,34 @@ gathered-once {A = A} (suc n) p f one = go (p n) refl (gathered-once n p f (λ j
 pub pick-distinct : (n : ℕ) (p : ℕ → Bool) → Distinct (pick n p)
 unfolding pick
 pick-distinct n p = gathered-once n p (λ k. k) (λ j k _ _ _ _ e. e)
+
+-- each member is below all after it
+abbrev pub Ascending : List ℕ → Type 0
+Ascending [] = Unit
+Ascending (x ∷ xs) = ((y : ℕ) → Among y xs → x < y) × Ascending xs
+
+pub pick-ascending : (n : ℕ) (p : ℕ → Bool) → Ascending (pick n p)
+unfolding pick gather only
+pick-ascending zero p = tt
+pick-ascending (suc n) p = go (p n) (pick-ascending n p)
+  where
+    above : (xs : List ℕ) → ((x : ℕ) → Among x xs → x < n) → Ascending xs → Ascending (xs ++ n ∷ [])
+    above [] small up = (λ y m. absurd (List·Memᴰ·not-nil m), tt)
+    above (x ∷ xs) small up = (
+      λ y m. ⊎-elim (up .0 y) (λ (i : Among y (n ∷ [])). rw (List·Memᴰ·eq-of-singleton i) (small x (List·Memᴰ·head refl))) (List·Memᴰ·append-cases xs m),
+      above xs (λ z m. small z (List·Memᴰ·tail m)) (up .1),
+    )
+
+    go : (b : Bool) → Ascending (pick n p) → Ascending (pick n p ++ only b n)
+    go true up = above (pick n p) (λ x m. pick-in n p x m .0) up
+    go false up = rw append-nil up
+
+-- what is brought by the numbers that pass
+pub map-pick {ℓ} : {A : Type ℓ} (n : ℕ) (p : ℕ → Bool) (f : ℕ → A) → map f (pick n p) ≡ gather n (λ k. only (p k) (f k))
+unfolding pick gather only
+map-pick zero p f = refl
+map-pick (suc n) p f = map-append f (pick n p) (only (p n) n) ∙ ap₂ (λ (xs ys : List _). xs ++ ys) (map-pick n p f) (one (p n) n)
+  where
+    one : (b : Bool) (k : ℕ) → map f (only b k) ≡ only b (f k)
+    one true k = refl
+    one false k = refl

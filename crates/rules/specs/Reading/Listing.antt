@@ -3,21 +3,22 @@ use mathlib.Core.Path.{_≡_, refl, sym, ap, _∙_, subst}
 use mathlib.Core.Logic.{_⊎_, inl, inr, _↔_}
 use mathlib.Core.Bool.{Bool, true}
 use mathlib.Core.List.{List, [], _∷_, map, List·Memᴰ·not-nil}
-use Prim.Native.Nat.{ℕ, _<_}
+use Prim.Native.Nat.{ℕ, _*_, _/_, _%_, _<_}
 use native.Mathlib.Omega.{arith}
 use native.Mathlib.Nat.{lt-trans}
+use Rattle.rules.specs.Below.{pick}
 use Rattle.rules.specs.Shape.{facet}
 use Rattle.rules.specs.Table.{Table}
-use Rattle.rules.specs.Skin.{triangle, skin}
-use Rattle.rules.specs.Laws.Truth.{lower-same-higher}
-use Rattle.rules.specs.Laws.Lists.{Among}
+use Rattle.rules.specs.Skin.{onSkin, triangle, skin}
+use Rattle.rules.specs.Laws.Truth.{and-first, lower-same-higher}
+use Rattle.rules.specs.Laws.Lists.{Among, pick-in, Ascending, pick-ascending, map-pick}
 use Rattle.rules.specs.Laws.Shape.{facet-three, three-facet}
 use Rattle.rules.specs.Reading.Rows.{Holds}
 use Rattle.rules.specs.Reading.Neighbours.{Side, side-self}
 use Rattle.rules.specs.Reading.Closed.{Paired}
 use Rattle.rules.specs.Reading.Skin.{OnSkin, BetweenSides, skin-reads, skin-between-sides, triangle-of}
 use Rattle.rules.specs.Reading.Ring.{Clean}
-use Rattle.rules.specs.Reading.Room.{Listed, skin-listed, triangle-holds, holds-triangle}
+use Rattle.rules.specs.Reading.Room.{Listed, skin-listed, triangleAt, listedAt, skin-by-place, triangle-holds, holds-triangle}
 
 -- three ids that rise
 abbrev pub ThreeRising : List ℕ → Type 0
@@ -31,6 +32,13 @@ pub record SideTriangle (t : Table) (In : ℕ → Type 0) (ids : List ℕ) : Typ
   pub corner-below : corner < t .corners
   pub between : BetweenSides t In row corner
   pub ids-are : ids ≡ triangle t row corner
+
+-- The triangles at places that rise: place 4r + c is the triangle of row r, an inside row, that leaves out corner c.
+pub record InOrder (t : Table) (In : ℕ → Type 0) (list : List (List ℕ)) : Type 0 where
+  pub places : List ℕ
+  pub ascending : Ascending places
+  pub of-inside : (p : ℕ) → Among p places → In (p / 4)
+  pub listed : list ≡ map (triangleAt t) places
 
 module _ (t : Table) (four : t .corners ≡ 4) {idCount : ℕ} (paired : Paired t idCount) where
   below-corners : {c : ℕ} → c < 4 → c < t .corners
@@ -122,6 +130,15 @@ module _ (t : Table) (four : t .corners ≡ 4) {idCount : ℕ} (paired : Paired 
               });
               ids-are = x .ids-are ∙ sym e;
             }
+
+    -- by inside row, then left-out corner
+    pub skin-order : InOrder t In (skin t inside)
+    skin-order = record {
+      places = pick (4 * t .rows) (listedAt t inside);
+      ascending = pick-ascending (4 * t .rows) (listedAt t inside);
+      of-inside = λ p m. told (p / 4) .0 (and-first (inside (p / 4)) (onSkin t inside (p / 4) (p % 4)) (pick-in (4 * t .rows) (listedAt t inside) p m .1));
+      listed = skin-by-place t inside four ∙ sym (map-pick (4 * t .rows) (listedAt t inside) (triangleAt t));
+    }
 
     -- an empty skin is clean
     pub empty-clean : skin t inside ≡ [] → Clean t In idCount

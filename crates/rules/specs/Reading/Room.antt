@@ -238,6 +238,25 @@ module _ (t : Table) (four : t .corners ≡ 4) (r c : ℕ) where
       let (l, p) = pick-in (t .corners) (λ k. not (eqb k c)) k i in
       (k, subst (λ (n : ℕ). k < n) four l, eqb-false k c (not-true (eqb k c) p), e)
 
+-- place 4r + c is the triangle of row r that leaves out corner c
+abbrev pub triangleAt : Table → ℕ → List ℕ
+triangleAt t p = triangle t (p / 4) (p % 4)
+
+-- it is listed there
+abbrev pub listedAt : Table → (ℕ → Bool) → ℕ → Bool
+listedAt t inside p = inside (p / 4) && onSkin t inside (p / 4) (p % 4)
+
+-- the skin list goes by place
+pub skin-by-place : (t : Table) (inside : ℕ → Bool) → t .corners ≡ 4 → skin t inside ≡ gather (4 * t .rows) (λ p. only (listedAt t inside p) (triangleAt t p))
+unfolding skin skinOf
+skin-by-place t inside four =
+    ap (λ (n : ℕ). gather (t .rows) (λ r. gather n (λ c. only (inside r && onSkin t inside r c) (triangle t r c)))) four
+    ∙ gather-same (t .rows) (λ r. gather 4 (λ c. only (inside r && onSkin t inside r c) (triangle t r c)))
+    (λ r. gather 4 (λ e. only (listedAt t inside (4 * r + e)) (triangleAt t (4 * r + e)))) (λ r _.
+    gather-same 4 (λ c. only (inside r && onSkin t inside r c) (triangle t r c)) (λ e. only (listedAt t inside (4 * r + e)) (triangleAt t (4 * r + e)))
+    (λ c l. rw (row-of {m = 4} (lit< tt) r c l, within-row {m = 4} (lit< tt) r c l)))
+    ∙ sym (gather-blocks 4 (t .rows) (λ p. only (listedAt t inside p) (triangleAt t p)))
+
 module _ (t : Table) (inside : ℕ → Bool) {idCount : ℕ} (paired : Paired t idCount) (four : t .corners ≡ 4) where
   -- two inside rows have no skin triangle in common, and no row has one twice
   one-place : (r c s d : ℕ) → r < t .rows → c < 4 → s < t .rows → d < 4 → (inside r && onSkin t inside r c) ≡ true → (inside s && onSkin t inside s d) ≡ true
@@ -259,19 +278,8 @@ module _ (t : Table) (inside : ℕ → Bool) {idCount : ℕ} (paired : Paired t 
 
   -- no triangle of the skin list stands twice
   pub skin-once : Distinct (skin t inside)
-  unfolding skin skinOf
   skin-once =
-      subst (λ (xs : List (List ℕ)). Distinct xs) blocks
-      (gathered-once (4 * t .rows) (λ p. inside (p / 4) && onSkin t inside (p / 4) (p % 4)) (λ p. triangle t (p / 4) (p % 4)) (λ p q lp lq ep eq e.
+      subst (λ (xs : List (List ℕ)). Distinct xs) (sym (skin-by-place t inside four))
+      (gathered-once (4 * t .rows) (listedAt t inside) (triangleAt t) (λ p q lp lq ep eq e.
       let (row, corner) = one-place (p / 4) (p % 4) (q / 4) (q % 4) (row-below {m = 4} (lit< tt) (t .rows) p lp) (mod-lt p (lit< tt)) (row-below {m = 4} (lit< tt) (t .rows) q lq) (mod-lt q (lit< tt)) ep eq e in
       omega (arith, div-add-mod p 4, div-add-mod q 4, row, corner)))
-    where
-      blocks : gather (4 * t .rows) (λ p. only (inside (p / 4) && onSkin t inside (p / 4) (p % 4)) (triangle t (p / 4) (p % 4)))
-          ≡ gather (t .rows) (λ r. gather (t .corners) (λ c. only (inside r && onSkin t inside r c) (triangle t r c)))
-      blocks =
-          gather-blocks 4 (t .rows) (λ p. only (inside (p / 4) && onSkin t inside (p / 4) (p % 4)) (triangle t (p / 4) (p % 4)))
-          ∙ gather-same (t .rows) (λ r. gather 4 (λ e. only (inside ((4 * r + e) / 4) && onSkin t inside ((4 * r + e) / 4) ((4 * r + e) % 4)) (triangle t ((4 * r + e) / 4) ((4 * r + e) % 4))))
-          (λ r. gather 4 (λ c. only (inside r && onSkin t inside r c) (triangle t r c))) (λ r _.
-          gather-same 4 (λ e. only (inside ((4 * r + e) / 4) && onSkin t inside ((4 * r + e) / 4) ((4 * r + e) % 4)) (triangle t ((4 * r + e) / 4) ((4 * r + e) % 4)))
-          (λ c. only (inside r && onSkin t inside r c) (triangle t r c)) (λ c l. rw (row-of {m = 4} (lit< tt) r c l, within-row {m = 4} (lit< tt) r c l)))
-          ∙ ap (λ (n : ℕ). gather (t .rows) (λ r. gather n (λ c. only (inside r && onSkin t inside r c) (triangle t r c)))) (sym four)

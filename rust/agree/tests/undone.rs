@@ -1,0 +1,102 @@
+//! Demand 3 on the compiled engine: what a run leaves, run backwards as a job
+//! and cut short as a job. AGREE_JOBS and AGREE_SEED as in `agree`.
+
+use agree::{setting, with_stack};
+use common::{Buffers, Outcome};
+use jobs::{cases, Job, Random};
+
+/// What a run gave and left.
+struct Ran {
+    outcome: Outcome,
+    answers: Vec<u8>,
+    marks: Vec<u8>,
+}
+
+fn ran(job: &Job) -> Ran {
+    let mut buffers = Buffers::filled(job.rooms(), 9);
+    let outcome = track::run(&job.bytes(), buffers.lend());
+    Ran {
+        outcome,
+        answers: buffers.answers,
+        marks: buffers.final_marks,
+    }
+}
+
+/// The same rows with the final marks, and the taken proposals backwards with
+/// add and remove exchanged.
+fn undoing(job: &Job, ran: &Ran) -> Job {
+    let taken = job.proposals.iter().zip(&ran.answers).rev();
+    Job {
+        marks: ran.marks.clone(),
+        proposals: taken
+            .filter(|(_, &answer)| answer == 0)
+            .map(|(&[row, kind], _)| [row, Job::ADD + Job::REMOVE - kind])
+            .collect(),
+        ..job.clone()
+    }
+}
+
+fn undone(job: &Job, run: &Ran) {
+    let back = undoing(job, run);
+    assert_eq!(back.proposals.len(), run.outcome.taken as usize);
+    let again = ran(&back);
+    assert_eq!(
+        [again.outcome.code, again.outcome.taken],
+        [0, run.outcome.taken]
+    );
+    assert!(again.answers.iter().all(|&answer| answer == 0));
+    assert_eq!(again.marks, job.marks);
+}
+
+/// The first k proposals alone, and then the others from the marks that those
+/// left, are the whole.
+fn cut(job: &Job, run: &Ran, k: usize) {
+    let (first, later) = job.proposals.split_at(k);
+    let stopped = ran(&Job {
+        proposals: first.to_vec(),
+        ..job.clone()
+    });
+    assert_eq!(stopped.outcome.code, 0);
+    assert_eq!(stopped.answers, run.answers[..k]);
+    let resumed = ran(&Job {
+        marks: stopped.marks,
+        proposals: later.to_vec(),
+        ..job.clone()
+    });
+    assert_eq!(resumed.outcome.code, 0);
+    assert_eq!(resumed.answers, run.answers[k..]);
+    assert_eq!(resumed.marks, run.marks);
+}
+
+fn every_case() {
+    let count = setting("AGREE_JOBS", 20_000) / 4;
+    let first = setting("AGREE_SEED", 1);
+    let [mut accepted, mut taken] = [0, 0];
+    for number in (first..).take(count as usize) {
+        let case = cases::case(number, 5 + (number % 90) as usize);
+        let Some(job) = Job::from_bytes(&case.job) else {
+            continue;
+        };
+        let run = ran(&job);
+        if run.outcome.code != 0 {
+            continue;
+        }
+        undone(&job, &run);
+        cut(
+            &job,
+            &run,
+            Random::new(number).below(job.proposals.len() + 1),
+        );
+        accepted += 1;
+        taken += run.outcome.taken;
+    }
+    println!("{accepted} jobs run backwards and cut, {taken} proposals taken back");
+    if count >= 5_000 {
+        assert!(accepted >= 1_000 && taken >= 10_000, "{accepted} {taken}");
+    }
+}
+
+#[test]
+fn backwards_and_cut() {
+    with_stack(every_case);
+}
