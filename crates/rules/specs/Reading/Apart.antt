@@ -1,5 +1,5 @@
 -- No two rows that rise and are in order have the same ids.
-use mathlib.Core.Path.{_≡_, sym, ap, _∙_, subst}
+use mathlib.Core.Path.{_≡_, sym, _∙_, subst}
 use mathlib.Core.Logic.{_⊎_, inl, inr, ⊎-elim}
 use Prim.Native.Nat.{ℕ, zero, suc, _<_}
 use native.Mathlib.Nat.{le-of-suc-le-suc, not-suc-le-zero, eq-or-lt-of-le, lt-trans}
@@ -7,7 +7,7 @@ use native.Mathlib.Omega.{arith}
 use lib.Dec.{lit<}
 use Rattle.rules.specs.Table.{Table}
 use Rattle.rules.specs.Laws.Truth.{lower-same-higher}
-use Rattle.rules.specs.Reading.Rows.{Rising, Before, Holds}
+use Rattle.rules.specs.Reading.Rows.{Rising, lower-first, Before, Holds}
 use Rattle.rules.specs.Reading.Closed.{Paired}
 
 module _ (t : Table) where
@@ -26,21 +26,13 @@ module _ (t : Table) where
       let (i, li, q) = held 1 (lit< tt) in
       let (j, lj, r) = held 2 (lit< tt) in
       let (m, lm, s) = held 3 (lit< tt) in
-      let hi = climbs h i lh p q (ux 0 1 (lit< tt) (rw four (lit< tt))) in
-      let ij = climbs i j li q r (ux 1 2 (lit< tt) (rw four (lit< tt))) in
-      let jm = climbs j m lj r s (ux 2 3 (lit< tt) (rw four (lit< tt))) in
+      let hi = lower-first t uy h i lh p q (ux 0 1 (lit< tt) (rw four (lit< tt))) in
+      let ij = lower-first t uy i j li q r (ux 1 2 (lit< tt) (rw four (lit< tt))) in
+      let jm = lower-first t uy j m lj r s (ux 2 3 (lit< tt) (rw four (lit< tt))) in
       let last : m < 4 = rw four at lm in
       at k l (subst (λ u. t .id y u ≡ t .id x 0) (omega arith) p) (subst (λ u. t .id y u ≡ t .id x 1) (omega arith) q)
       (subst (λ u. t .id y u ≡ t .id x 2) (omega arith) r) (subst (λ u. t .id y u ≡ t .id x 3) (omega arith) s)
     where
-      climbs : (i j : ℕ) → i < t .corners → {a b : ℕ} → t .id y i ≡ a → t .id y j ≡ b → a < b → i < j
-      climbs i j l p q ab = go (lower-same-higher i j)
-        where
-          go : (i < j) ⊎ (i ≡ j) ⊎ (j < i) → i < j
-          go (inl l) = l
-          go (inr (inl e)) = absurd (omega (arith, ap (t .id y) e))
-          go (inr (inr m)) = absurd (omega (arith, uy j i m l))
-
       at : (k : ℕ) → k < 4 → t .id y 0 ≡ t .id x 0 → t .id y 1 ≡ t .id x 1 → t .id y 2 ≡ t .id x 2 → t .id y 3 ≡ t .id x 3 → t .id x k ≡ t .id y k
       at zero l a b c d = sym a
       at (suc zero) l a b c d = sym b

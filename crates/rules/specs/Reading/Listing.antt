@@ -1,6 +1,6 @@
 -- The skin list: exactly the triangles with one row inside and one outside, named from either of the two; the ids of each rise.
 use mathlib.Core.Path.{_≡_, refl, sym, ap, _∙_, subst}
-use mathlib.Core.Logic.{_⊎_, inl, inr, _↔_}
+use mathlib.Core.Logic.{_↔_}
 use mathlib.Core.Bool.{Bool, true}
 use mathlib.Core.List.{List, [], _∷_, map, List·Memᴰ·not-nil}
 use Prim.Native.Nat.{ℕ, _*_, _/_, _%_, _<_}
@@ -10,10 +10,10 @@ use Rattle.rules.specs.Below.{pick}
 use Rattle.rules.specs.Shape.{facet}
 use Rattle.rules.specs.Table.{Table}
 use Rattle.rules.specs.Skin.{onSkin, triangle, skin}
-use Rattle.rules.specs.Laws.Truth.{and-first, lower-same-higher}
+use Rattle.rules.specs.Laws.Truth.{and-first}
 use Rattle.rules.specs.Laws.Lists.{Among, pick-in, Ascending, pick-ascending, map-pick}
 use Rattle.rules.specs.Laws.Shape.{facet-three, three-facet}
-use Rattle.rules.specs.Reading.Rows.{Holds}
+use Rattle.rules.specs.Reading.Rows.{lower-first, Holds}
 use Rattle.rules.specs.Reading.Neighbours.{Side, side-self}
 use Rattle.rules.specs.Reading.Closed.{Paired}
 use Rattle.rules.specs.Reading.Skin.{OnSkin, BetweenSides, skin-reads, skin-between-sides, triangle-of}
@@ -65,8 +65,8 @@ module _ (t : Table) (four : t .corners ≡ 4) {idCount : ℕ} (paired : Paired 
       (λ (q : t .id r i ≡ t .id r j). omega arith, λ (q : t .id r i ≡ t .id r k). omega arith, λ (q : t .id r j ≡ t .id r k). omega arith)
       (held i (below-corners (lt-trans ij lj)) ni) (held j (below-corners lj) nj) (held k (below-corners k4) nk)
       in
-      let first = climbs (x .first) (x .second) (x .first-below) (x .first-is) (x .second-is) up in
-      let second = climbs (x .second) (x .third) (x .second-below) (x .second-is) (x .third-is) up′ in (
+      let first = lower-first t (paired .rising s ls) (x .first) (x .second) (below-corners (x .first-below)) (x .first-is) (x .second-is) up in
+      let second = lower-first t (paired .rising s ls) (x .second) (x .third) (below-corners (x .second-below)) (x .second-is) (x .third-is) up′ in (
         d,
         ld,
         triangle-is s d (x .first) (x .second) (x .third) (three-facet d (x .first) (x .second) (x .third) ld first second (x .third-below) (x .first-stays) (x .second-stays) (x .third-stays))
@@ -74,14 +74,6 @@ module _ (t : Table) (four : t .corners ≡ 4) {idCount : ℕ} (paired : Paired 
             ∙ sym (triangle-is r c i j k e),
       )
     where
-      climbs : (i j : ℕ) → i < 4 → {a b : ℕ} → t .id s i ≡ a → t .id s j ≡ b → a < b → i < j
-      climbs i j l p q ab = go (lower-same-higher i j)
-        where
-          go : (i < j) ⊎ (i ≡ j) ⊎ (j < i) → i < j
-          go (inl l) = l
-          go (inr (inl e)) = absurd (omega (arith, ap (t .id s) e))
-          go (inr (inr m)) = absurd (omega (arith, paired .rising s ls j i m (below-corners l)))
-
       listed : {a b c d e f : ℕ} → a ≡ d → b ≡ e → c ≡ f → _≡_ {A = List ℕ} (a ∷ b ∷ c ∷ []) (d ∷ e ∷ f ∷ [])
       listed p q s = rw (p, q, s)
 

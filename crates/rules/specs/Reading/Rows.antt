@@ -1,6 +1,6 @@
 -- Rows: rising ids, dictionary order, the ids that a row holds. "First such row" is `First`.
-use mathlib.Core.Path.{_≡_}
-use mathlib.Core.Logic.{⊎-elim, _↔_, _≢_}
+use mathlib.Core.Path.{_≡_, ap}
+use mathlib.Core.Logic.{_⊎_, inl, inr, ⊎-elim, _↔_, _≢_}
 use mathlib.Core.Bool.{Bool, true, _&&_}
 use mathlib.Core.Option.{some}
 use Prim.Native.Nat.{ℕ, zero, suc, _+_, _-_, _≤_, _<_}
@@ -11,7 +11,7 @@ use lib.Dec.{eqb, ltb}
 use borrow.Author.Tests.{eqb-true, eq-eqb, ltb-true, lt-ltb}
 use Rattle.rules.specs.Below.{lowest, all}
 use Rattle.rules.specs.Table.{Table, rising, idsBelow, before, holds}
-use Rattle.rules.specs.Laws.Truth.{not-both, is-false, and-first, and-second, and-both}
+use Rattle.rules.specs.Laws.Truth.{not-both, lower-same-higher, is-false, and-first, and-second, and-both}
 use Rattle.rules.specs.Laws.Below.{lowest-is, is-lowest, any-here, any-some, all-each, each-all}
 
 -- ---- the first with a property
@@ -79,6 +79,15 @@ module _ (t : Table) where
 
   pub ids-differ : {r : ℕ} → Rising r → {i j : ℕ} → i < t .corners → j < t .corners → i ≢ j → t .id r i ≢ t .id r j
   ids-differ up {i} {j} l m ne e = ne (one-corner up i j l m e)
+
+  -- and lower ones stand at lower corners
+  pub lower-first : {r : ℕ} → Rising r → (i j : ℕ) → i < t .corners → {a b : ℕ} → t .id r i ≡ a → t .id r j ≡ b → a < b → i < j
+  lower-first {r} up i j l p q ab = go (lower-same-higher i j)
+    where
+      go : (i < j) ⊎ (i ≡ j) ⊎ (j < i) → i < j
+      go (inl l) = l
+      go (inr (inl e)) = absurd (omega (arith, ap (t .id r) e))
+      go (inr (inr m)) = absurd (omega (arith, up j i m l))
 
   -- ---- dictionary order
 
