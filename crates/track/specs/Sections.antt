@@ -7,8 +7,7 @@ use Prim.Native.Nat.{ℕ, _+_, _-_, _*_, _/_, _≤_}
 use native.Mathlib.Nat.{le-refl}
 use native.Mathlib.Omega.{arith}
 use lib.Dec.{leb, lit<, lit≤}
-use lib.ListN.{length, getD, take, drop, replicate, length-drop, length-replicate}
-use lib.Seq.{length-take-le}
+use lib.ListN.{length, getD, take, drop, replicate, length-replicate}
 use borrow.Author.Tests.{ne-eqb}
 use Rattle.rules.specs.Below.{tabulate}
 use Rattle.rules.specs.First.{Test, Verdict, firstMatch}
@@ -17,6 +16,7 @@ use Rattle.rules.specs.Job as rules
 use Rattle.rules.specs.Job.{track, rowBytes, rowsAt, marksAt, proposalsAt, section, rowsTable, proposalIn, Job, jobOf, Lent, workRoom, written, tableTests, markTests, Result, accepted, refused}
 use Rattle.rules.specs.Laws.Truth.{same-or-not}
 use Rattle.rules.specs.Laws.First.{match-append, match-front}
+use Rattle.rules.specs.Laws.Lists.{part-length}
 use Rattle.rules.specs.Laws.Written.{written-length, written-at, written-over}
 use Rattle.rules.specs.Reading.Closed.{Closed, list-length, list-at}
 use Rattle.rules.specs.Reading.Codes.{closed-reads}
@@ -30,9 +30,6 @@ use Rattle.growth.specs.Answers.{proposalsIn}
 use Rattle.track.specs.declared.Outcome.{Outcome}
 use Rattle.track.specs.Outcomes.{lent, result, refusal}
 use Rattle.track.specs.Stages.{decided, jobIn, fromTable, fromMarks, late, all-zero, Ready, Laid}
-
-section-length : (job : List ℕ) (start size : ℕ) → start + size ≤ length job → length (section job start size) ≡ size
-section-length job start size l = length-take-le size (drop start job) (rw (length-drop start job) (omega arith))
 
 -- a refused table leaves zeros, a closed one what was written
 left-refused : (b : Broken) (work : List ℕ) → verdictOf b .code ≢ 0 → leftOf b work ≡ replicate (length work) 0
@@ -89,14 +86,14 @@ module _ {h : Header} {job : List ℕ} {buffers : Lent} (l : Laid h job buffers)
   proposals-is = let size : length job - c ≡ 8 * h .proposals = omega (arith, ec, l .long) in ap₂ (λ (n m : ℕ). take n (drop m job)) size ec
 
   rows-long : length rows ≡ rowBytes track * h .rows
-  rows-long = ap length rows-is ∙ section-length job rowsAt (rowBytes track * h .rows) (omega (arith, l .long))
+  rows-long = ap length rows-is ∙ part-length job rowsAt (rowBytes track * h .rows) (omega (arith, l .long))
 
   pub counted : rowsIn rows ≡ h .rows
   unfolding rowsIn
   counted = omega (arith, rows-long)
 
   proposals-long : length proposals ≡ 8 * h .proposals
-  proposals-long = ap length proposals-is ∙ section-length job (proposalsAt track (meant h)) (8 * h .proposals) (omega (arith, l .long))
+  proposals-long = ap length proposals-is ∙ part-length job (proposalsAt track (meant h)) (8 * h .proposals) (omega (arith, l .long))
 
   proposals-counted : length proposals / 8 ≡ h .proposals
   proposals-counted = omega (arith, proposals-long)
@@ -175,7 +172,7 @@ module _ {h : Header} {job : List ℕ} {buffers : Lent} (l : Laid h job buffers)
               ∙ written-at (neighbourList (tableIn rows)) (buffers .work) (4 * r + c) (rw (list-length (tableIn rows)) (omega arith))
               ∙ list-at (tableIn rows) r c lr lc;
         };
-        each = ap length marks-is ∙ section-length job (marksAt track (meant h)) (h .rows) (omega (arith, l .long)) ∙ sym counted;
+        each = ap length marks-is ∙ part-length job (marksAt track (meant h)) (h .rows) (omega (arith, l .long)) ∙ sym counted;
         listed = listed ∙ sym (ap (written (neighbourList (tableIn rows))) listed
             ∙ written-over (neighbourList (tableIn rows)) (neighbourList (tableIn rows)) (buffers .work) (le-refl (length (neighbourList (tableIn rows)))));
         answer-room = rw proposals-counted (l .answer-room);
