@@ -1,14 +1,13 @@
 -- Where an answer is an enum behind a definition that gives document 01's number and place: the case that these stand for. That the
 -- definition tells its cases apart is what leaves one possible result.
 use mathlib.Core.Path.{_≡_, refl, sym, ap, _∙_}
-use mathlib.Core.Bool.{true, _&&_, cond}
+use mathlib.Core.Bool.{Bool, cond}
 use mathlib.Core.List.{List}
 use mathlib.Core.Option.{Option, some, none}
 use Prim.Native.Nat.{ℕ}
 use lib.Dec.{eqb}
-use borrow.Author.Tests.{eq-eqb}
+use Rattle.rules.specs.Table.{Table}
 use Rattle.rules.specs.First.{Verdict}
-use Rattle.rules.specs.Laws.Truth.{and-both}
 use Rattle.job.specs.declared.Header.{Header}
 use Rattle.job.specs.declared.Reading.{Reading}
 use Rattle.job.specs.declared.Reading.the-variants as reading
@@ -19,6 +18,8 @@ use Rattle.values.specs.Search.{placeOf}
 use Rattle.table.specs.declared.Broken.{Broken}
 use Rattle.table.specs.declared.Broken.the-variants as broken
 use Rattle.table.specs.Closed as closed
+use Rattle.round.specs.declared.Stop.{Stop}
+use Rattle.round.specs.Edge.{Turned, turned-once}
 use Rattle.marks.specs.declared.Unfit.{Unfit}
 use Rattle.marks.specs.declared.Unfit.the-variants as unfit
 use Rattle.marks.specs.Start as start
@@ -90,5 +91,13 @@ unfit-is u e = sym (back u) ∙ ap unfitAt e
 
 -- ---- `round::turn`
 
-pub stops-same : {a b c d : ℕ} → (a ≡ b) × (c ≡ d) → (eqb a b && eqb c d) ≡ true
-stops-same {a} {b} {c} {d} (e, f) = and-both (eq-eqb a b e) (eq-eqb c d f)
+-- the walk about an edge stops so, and in no other way
+pub record TheStop (t : Table) (inside : ℕ → Bool) (a b first second : ℕ) (stop : Stop) : Type 0 where
+  pub stops : Turned t inside a b first second (stop .at) (stop .next)
+  pub only : (other : Stop) → Turned t inside a b first second (other .at) (other .next) → other ≡ stop
+
+pub stop-is : (t : Table) (inside : ℕ → Bool) (a b first second : ℕ) (stop : Stop) → Turned t inside a b first second (stop .at) (stop .next) → TheStop t inside a b first second stop
+stop-is t inside a b first second stop turned = record {
+  stops = turned;
+  only = λ other turned′. let (at, next) = turned-once t inside a b first second turned′ turned in λ i. record { at = at i; next = next i };
+}

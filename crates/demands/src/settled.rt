@@ -4,12 +4,12 @@ use job::Reading;
 use marks::Unfit;
 use marks::check_marks;
 use rings::ringless_vertex;
+use round::Stop;
 use round::turn;
 use table::Broken;
 use values::Found;
 ghost use mathlib.Core.Path.{_≡_};
 ghost use mathlib.Core.Logic.{_≢_};
-ghost use mathlib.Core.Bool.{true};
 ghost use Prim.Native.Nat.{_*_, _≤_};
 ghost use lib.ListN.{length};
 ghost use Rattle.rules.specs.Below.{lowest};
@@ -24,7 +24,7 @@ ghost use Rattle.table.specs.Ground.{Grounded};
 ghost use Rattle.table.specs.Closed.{leftOf};
 ghost use Rattle.rings.specs.Far.{Marked};
 ghost use Rattle.round.specs.Edge.{Near};
-ghost use Rattle.demands.specs.Settled.{readingAt, brokenAt, unfitAt, foundAt};
+ghost use Rattle.demands.specs.Settled.{readingAt, brokenAt, unfitAt, foundAt, TheStop};
 
 pub(crate) fn header_read(job: &[u8]) -> Reading
     ensures { λ r. ⌜ r ≡ readingAt (firstMatch 1 (layoutTests track (now (job .entry)))) (header (now (job .entry))) ⌝ }
@@ -54,8 +54,7 @@ pub(crate) fn vertex_found(rows: &[u8], neighbours: &[u32], marks: &[u8], ids: u
     ringless_vertex(rows, neighbours, marks, ids)
 }
 
-// Two walks about an edge stop alike.
-pub(crate) fn turned_alike(
+pub(crate) fn stop_found(
     rows: &[u8],
     neighbours: &[u32],
     marks: &[u8],
@@ -63,11 +62,9 @@ pub(crate) fn turned_alike(
     b: usize,
     first: usize,
     second: usize,
-) -> bool
+) -> Stop
     requires { ⌜ Grounded (now rows) (now neighbours) × (rowsIn (now rows) ≤ length (now marks)) × (a ≢ b) × Near (tableIn (now rows)) a b second first ⌝ }
-    ensures { λ r. ⌜ r ≡ true ⌝ }
+    ensures { λ r. ⌜ TheStop (tableIn (now (rows .entry))) (insideIn (now (marks .entry))) a b first second r ⌝ }
 {
-    let one = turn(rows, neighbours, marks, a, b, first, second);
-    let other = turn(rows, neighbours, marks, a, b, first, second);
-    (one.at == other.at) & (one.next == other.next)
+    turn(rows, neighbours, marks, a, b, first, second)
 }

@@ -9,10 +9,10 @@ use Rattle.rules.specs.Table.{Table}
 use Rattle.rules.specs.Skin.{onSkin, clean}
 use Rattle.rules.specs.Cases.{passes}
 use Rattle.rules.specs.Laws.Truth.{not-both, is-false, is-true, same-test, same-or-not}
-use Rattle.rules.specs.Laws.Count.{ExactlyTwo, count-zero, count-one, count-two, count-not, count-without, without, is-without}
+use Rattle.rules.specs.Laws.Count.{count-zero, count-one, count-two, count-not, count-without, without, is-without}
 use Rattle.rules.specs.Reading.Rows.{one-corner, Holds}
 use Rattle.rules.specs.Reading.Closed.{Closed}
-use Rattle.rules.specs.Reading.Answers.{SomeOther, HoldsEdge, HoldsNeither, Refuses, neither-holds, passes-reads}
+use Rattle.rules.specs.Reading.Answers.{Refuses, neither-holds, passes-reads}
 use Rattle.manifold.specs.Facet.{FlipAt, same-mark, not-differs}
 use Rattle.manifold.specs.Ring.{Empty, End}
 use Rattle.manifold.specs.Triangle.{On, Skin, Rings, clean-rings}
@@ -110,17 +110,13 @@ module _ (t : Table) (four : t .corners ≡ 4) {idCount : ℕ} (closed : Closed 
 
   -- ---- by the definition of `rules`
 
-  -- the edge that is in neither skin triangle has their left-out corners
-  edge : (x : ExactlyTwo (t .corners) Left) → HoldsNeither t Left Other r (x .one) (x .two) ↔ SomeOther t Left Other r (HoldsEdge t Left Other r (x .one) (x .two))
-  edge x = neither-holds t Left Other r (x .one) (x .two) (x .one-below) (x .two-below) (x .differ)
-
   refused : Rings t inside → Rings t after → Refuses t Left Other r → ⊥
   refused rings after-rings (inl (none, (c, l, (s, ls, o, h)))) =
       case-0 rings (λ c l. none c (below-corners l)) .0 after-rings c (below-four t four l) s ls o h
   refused rings after-rings (inr (inl (x, (s, ls, o, h)))) =
       case-1 rings (below-four t four (x .below)) (x .is) (λ c l. x .only c (below-corners l)) .0 after-rings s ls o h
   refused rings after-rings (inr (inr (x, held))) =
-      let (s, ls, o, h) = edge x .0 held in
+      let (s, ls, o, h) = neither-holds t Left Other r x .0 held in
       case-2 rings (below-four t four (x .one-below)) (below-four t four (x .two-below)) (x .differ) (x .one-is) (x .two-is) (λ c l. x .only c (below-corners l)) .0 after-rings s ls o h
 
   f : ℕ
@@ -143,7 +139,7 @@ module _ (t : Table) (four : t .corners ≡ 4) {idCount : ℕ} (closed : Closed 
       by-f (inr _) (inr _) (inl two) =
           let x = count-two (t .corners) (onSkin t inside r) two in
           case-2 rings (below-four t four (x .one-below)) (below-four t four (x .two-below)) (x .differ) (x .one-is) (x .two-is) (λ c l. x .only c (below-corners l)) .1
-          (λ s ls o h. free (inr (inr (x, edge x .1 (s, ls, o, h)))))
+          (λ s ls o h. free (inr (inr (x, neither-holds t Left Other r x .1 (s, ls, o, h)))))
       by-f (inr n₀) (inr n₁) (inr n₂) =
           passes-more t four closed flip lr (λ a b la lb na nb.
           ⊎-elim (λ e. e) (λ ne. absurd (too-many n₀ n₁ n₂ (two-pass (t .corners) (λ c. not (onSkin t inside r c)) a b (below-corners la) (below-corners lb)

@@ -1,5 +1,5 @@
 -- Demand 3 for accepted jobs: those that `rules`' run gives code 0, whatever is lent.
-use mathlib.Core.Path.{_≡_, sym, ap, _∙_, subst}
+use mathlib.Core.Path.{_≡_, sym, _∙_}
 use mathlib.Core.Logic.{_↔_}
 use mathlib.Core.Bool.{true, false}
 use mathlib.Core.List.{List}
@@ -9,8 +9,8 @@ use native.Mathlib.Omega.{arith}
 use lib.ListN.{length, take}
 use Rattle.rules.specs.First.{firstMatch}
 use Rattle.rules.specs.Proposals.{Proposal, insideIn, answer, RefusedByCases}
-use Rattle.rules.specs.Job.{Form, Header, headerOf, wholeLength, Job, jobOf, answersOf, standing, finalOf, cleanWith, Lent, tableTests, sectionTests, accepted, run}
-use Rattle.rules.specs.Made.{withProposals, cutTo, remade}
+use Rattle.rules.specs.Job.{Form, headerOf, wholeLength, Job, jobOf, answersOf, standing, finalOf, cleanWith, Lent, tableTests, sectionTests, accepted, run}
+use Rattle.rules.specs.Made.{withProposals, remadeJob, cutJob, cutTo, remade}
 use Rattle.rules.specs.Laws.Lists.{Among}
 use Rattle.rules.specs.Laws.First.{match-parts, match-both}
 use Rattle.rules.specs.Laws.Proposals.{answers-length, taken-few}
@@ -19,7 +19,7 @@ use Rattle.rules.specs.Laws.Made.{cut-header, cut-laid, cut-job, remade-header,
 use Rattle.rules.specs.Reading.Closed.{Closed}
 use Rattle.rules.specs.Reading.Skin.{inside-reads}
 use Rattle.rules.specs.Reading.Ring.{clean-plain}
-use Rattle.rules.specs.Reading.Codes.{WithinLimits, LaidOut, RoomShort, marks-fit, run-fits, sections-passed, accepted-closed, accepted-marks, accepted-outer, accepted-clean, accepted-header, accepted-length}
+use Rattle.rules.specs.Reading.Codes.{WithinLimits, LaidOut, RoomShort, marks-fit, run-as, sections-passed, accepted-closed, accepted-marks, accepted-outer, accepted-clean, accepted-header, accepted-length}
 use Rattle.manifold.specs.Steps.{PassesEarlier, flipped, Marks, AllTaken, undoing, undoing-length, taken-known, outer-kept, five-cases, every-step, backwards, all-steps}
 
 -- After each proposal, and before the first, the far edges at each skin corner form one single ring.
@@ -35,14 +35,6 @@ CasesDecide job = (k : ℕ) (p : Proposal) → PassesEarlier (job .table) (stand
 -- The taken proposals, run backwards with add and remove exchanged, are all taken and bring back the start.
 abbrev pub Backwards : Job → Type 0
 Backwards job = AllTaken (job .table) (finalOf job) (undoing (answersOf job) (job .proposals)) (job .marks)
-
--- a job's first k proposals
-abbrev pub firstOf : Job → ℕ → Job
-firstOf job k = record { ids = job .ids; table = job .table; marks = job .marks; proposals = take k (job .proposals) }
-
--- the same rows with other marks and proposals
-abbrev pub withMarks : Job → List ℕ → List Proposal → Job
-withMarks job marks proposals = record { ids = job .ids; table = job .table; marks = marks; proposals = proposals }
 
 module _ (f : Form) (bytes : List ℕ) (lent : Lent) (corners : f .corners ≡ 4) (ran : run f bytes lent .code ≡ 0) where
   abbrev job : Job
@@ -82,13 +74,10 @@ module _ (f : Form) (bytes : List ℕ) (lent : Lent) (corners : f .corners ≡ 4
 
     -- The job cut to its first k proposals is run, and gives what it gives for these.
     pub cut-run : (k : ℕ) → k ≤ headerOf bytes .proposals → (buffers : Lent) → (RoomShort f (withProposals (headerOf bytes) k) buffers → ⊥)
-        → run f (cutTo f k bytes) buffers ≡ accepted (firstOf job k) buffers
+        → run f (cutTo f k bytes) buffers ≡ accepted (cutJob k job) buffers
     cut-run k few buffers room =
-        let is = cut-job f bytes limits laid mode-small small k few in
-        run-fits f (cutTo f k bytes) buffers (cut-laid f bytes limits laid mode-small small k few)
-        (λ short. room (subst (λ (h : Header). RoomShort f h buffers) (cut-header f bytes limits laid mode-small small k few) short))
-        (subst (λ (j : Job). firstMatch 5 (sectionTests j) .code ≡ 0) (sym is) (sections-passed f bytes lent ran))
-        ∙ ap (λ (j : Job). accepted j buffers) is
+        run-as f (cutTo f k bytes) buffers (withProposals (headerOf bytes) k) (cutJob k job) (cut-header f bytes limits laid mode-small small k few)
+        (cut-job f bytes limits laid mode-small small k few) (cut-laid f bytes limits laid mode-small small k few) room (sections-passed f bytes lent ran)
 
     -- The same rows with the final marks, and the taken ones backwards, are run too.
     module _ (buffers : Lent) (room : RoomShort f (withProposals (headerOf bytes) (length (undoing (answersOf job) (job .proposals)))) buffers → ⊥) where
@@ -112,7 +101,7 @@ module _ (f : Form) (bytes : List ℕ) (lent : Lent) (corners : f .corners ≡ 4
           let (row, kind) = taken-known (job .table) (finalOf job) back (job-backwards .0) p m in
           (omega (arith, row, job-rows f bytes, limits .0 .1 .1), omega (arith, kind))
 
-      sections : firstMatch 5 (sectionTests (withMarks job (finalOf job) back)) .code ≡ 0
+      sections : firstMatch 5 (sectionTests (remadeJob (finalOf job) back job)) .code ≡ 0
       unfolding tableTests
       sections =
           let t = job .table in
@@ -123,11 +112,10 @@ module _ (f : Form) (bytes : List ℕ) (lent : Lent) (corners : f .corners ≡ 4
           (clean-plain t four (insideIn (finalOf job)) (inside-reads (finalOf job)) (job .ids) (closed .paired) .0 (final .1)))
 
       pub undone-run : run f (remade f (finalOf job) (undoing (answersOf job) (job .proposals)) bytes) buffers
-          ≡ accepted (withMarks job (finalOf job) (undoing (answersOf job) (job .proposals))) buffers
+          ≡ accepted (remadeJob (finalOf job) (undoing (answersOf job) (job .proposals)) job) buffers
       unfolding back
       undone-run =
-          let is = remade-job f bytes limits laid mode-small small (finalOf job) each back few fit in
-          run-fits f (remade f (finalOf job) back bytes) buffers (remade-laid f bytes limits laid mode-small small (finalOf job) each back few)
-          (λ short. room (subst (λ (h : Header). RoomShort f h buffers) (remade-header f bytes limits laid mode-small small (finalOf job) each back few) short))
-          (subst (λ (j : Job). firstMatch 5 (sectionTests j) .code ≡ 0) (sym is) sections)
-          ∙ ap (λ (j : Job). accepted j buffers) is
+          run-as f (remade f (finalOf job) back bytes) buffers (withProposals (headerOf bytes) (length back)) (remadeJob (finalOf job) back job)
+          (remade-header f bytes limits laid mode-small small (finalOf job) each back few)
+          (remade-job f bytes limits laid mode-small small (finalOf job) each back few fit)
+          (remade-laid f bytes limits laid mode-small small (finalOf job) each back few) room sections

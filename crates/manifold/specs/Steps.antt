@@ -61,7 +61,12 @@ passes-earlier : (t : Table) (marks : List ℕ) (p : Proposal) → PassesEarlier
 passes-earlier t marks p = (forth, back)
   where
     forth : PassesEarlier t marks p → Eligible t marks p
-    forth off = record { row-below = lt-of-not-le (λ l. off 0 (lit< tt) 0 (l, refl)); kind-known = known; finite = λ h. off 2 (lit< tt) 0 (h, refl); this-side = sym (differs-not (adds p) (insideIn marks (p .row)) (λ e. off 3 (lit< tt) 0 (other-reads t marks p known (p .row) .0 (sym e), refl))) }
+    forth off = record {
+      row-below = lt-of-not-le (λ l. off 0 (lit< tt) 0 (l, refl));
+      kind-known = known;
+      finite = λ h. off 2 (lit< tt) 0 (h, refl);
+      this-side = sym (differs-not (adds p) (insideIn marks (p .row)) (λ e. off 3 (lit< tt) 0 (other-reads t marks p known (p .row) .0 (sym e), refl)));
+    }
       where
         known : (p .kind ≡ 1) ⊎ (p .kind ≡ 2)
         known = ⊎-elim inl (λ n₁. ⊎-elim inr (λ n₂. absurd (off 1 (lit< tt) 0 ((n₁, n₂), refl))) (same-or-not (p .kind) 2)) (same-or-not (p .kind) 1)

@@ -1,10 +1,10 @@
 -- Job files made from their parts.
 use Prim.Native.Nat.{ℕ, _-_, _*_}
 use mathlib.Core.List.{List, [], _∷_, _++_}
-use lib.ListN.{length}
+use lib.ListN.{length, take}
 use Rattle.rules.specs.Words.{words}
 use Rattle.rules.specs.Proposals.{Proposal}
-use Rattle.rules.specs.Job.{Form, Header, headerOf, rowBytes, rowsAt, marksAt, proposalsAt, wholeLength, section}
+use Rattle.rules.specs.Job.{Form, Header, headerOf, rowBytes, rowsAt, marksAt, proposalsAt, wholeLength, section, Job}
 
 -- the eight words of a header, as the table of the header asks
 abbrev pub headerWords : Form → Header → List ℕ
@@ -21,6 +21,16 @@ proposalBytes (p ∷ ps) = words (p .row ∷ p .kind ∷ []) ++ proposalBytes ps
 -- the same V, N and word 7, and so many proposals
 abbrev pub withProposals : Header → ℕ → Header
 withProposals h k = record { ids = h .ids; rows = h .rows; proposals = k; mode = h .mode }
+
+-- ---- other proposals
+
+-- the job with the same rows, and other marks and proposals
+abbrev pub remadeJob : List ℕ → List Proposal → Job → Job
+remadeJob marks proposals job = record { ids = job .ids; table = job .table; marks = marks; proposals = proposals }
+
+-- the job with its first k proposals
+abbrev pub cutJob : ℕ → Job → Job
+cutJob k job = remadeJob (job .marks) (take k (job .proposals)) job
 
 -- the job file cut to its first k proposals
 unfoldable pub cutTo : Form → ℕ → List ℕ → List ℕ

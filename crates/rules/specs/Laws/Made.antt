@@ -12,7 +12,7 @@ use Rattle.rules.specs.Words.{words}
 use Rattle.rules.specs.First.{given, firstMatch}
 use Rattle.rules.specs.Proposals.{Proposal}
 use Rattle.rules.specs.Job.{Form, track, Header, headerWord, headerOf, rowBytes, rowsAt, marksAt, proposalsAt, wholeLength, section, rowsTable, proposalIn, jobOf, layoutTests}
-use Rattle.rules.specs.Made.{headerWords, headerBytes, proposalBytes, withProposals, cutTo, remade}
+use Rattle.rules.specs.Made.{headerWords, headerBytes, proposalBytes, withProposals, remadeJob, cutJob, cutTo, remade}
 use Rattle.rules.specs.Laws.Lists.{Among, part-length, tabulate-is}
 use Rattle.rules.specs.Laws.Words.{word-after, words-at}
 use Rattle.rules.specs.Laws.Job.{job-proposals}
@@ -131,8 +131,7 @@ module _ (f : Form) (bytes : List ℕ) (limits : WithinLimits f (headerOf bytes)
         let h = withProposals (headerOf bytes) k in
         made-laid f h (fewer k few) _ (omega (arith, within-file rowsAt (wholeLength f h - rowsAt) (omega arith)))
 
-    pub cut-job : jobOf f (cutTo f k bytes)
-        ≡ record { ids = jobOf f bytes .ids; table = jobOf f bytes .table; marks = jobOf f bytes .marks; proposals = take k (jobOf f bytes .proposals) }
+    pub cut-job : jobOf f (cutTo f k bytes) ≡ cutJob k (jobOf f bytes)
     unfolding cutTo jobOf
     cut-job =
         let h = withProposals (headerOf bytes) k in
@@ -158,7 +157,7 @@ module _ (f : Form) (bytes : List ℕ) (limits : WithinLimits f (headerOf bytes)
         (simp (length-append, rows-long, proposals-long) (omega arith))
 
     pub remade-job : ((p : Proposal) → Among p proposals → (p .row < 256 ^ 4) × (p .kind < 256 ^ 4))
-        → jobOf f (remade f marks proposals bytes) ≡ record { ids = jobOf f bytes .ids; table = jobOf f bytes .table; marks = marks; proposals = proposals }
+        → jobOf f (remade f marks proposals bytes) ≡ remadeJob marks proposals (jobOf f bytes)
     unfolding remade jobOf
     remade-job fit =
         let h = withProposals (headerOf bytes) (length proposals) in

@@ -1,4 +1,5 @@
--- Laws of the fixed tables: each is one test that antt computes over the whole table, and a lemma that turns it into the rule at each entry.
+-- Laws of the fixed tables: read off entry by entry, or one test that antt computes over the whole table and a lemma that turns it into
+-- the rule at each entry.
 use mathlib.Core.Path.{_≡_, refl, sym, ap, _∙_}
 use mathlib.Core.Logic.{_⊎_, inl, inr, ⊎-elim, _↔_, _≢_}
 use mathlib.Core.Bool.{Bool, true, false, not, _&&_, _||_}
@@ -69,10 +70,11 @@ pub facet-table : tabulate 4 (facet 4) ≡ triangleTable
 unfolding tabulate gather facet pick only triangleTable
 facet-table = refl
 
--- three corners that rise, each other than c
+-- three corners, each other than c
 abbrev pub ThreeOthers : ℕ → ℕ → ℕ → ℕ → Type 0
 ThreeOthers c i j k = (i ≢ c) × (j ≢ c) × (k ≢ c)
 
+-- the corners of a triangle rise
 pub facet-three : (c : ℕ) → c < 4 → (i : ℕ) × (j : ℕ) × (k : ℕ) × (i < j) × (j < k) × (k < 4) × ThreeOthers c i j k × (facet 4 c ≡ i ∷ j ∷ k ∷ [])
 unfolding facet pick gather only
 facet-three zero l = (1, 2, 3, lit< tt, lit< tt, lit< tt, (λ e. omega arith, λ e. omega arith, λ e. omega arith), refl)
@@ -81,7 +83,7 @@ facet-three (suc (suc zero)) l = (0, 1, 3, lit< tt, lit< tt, lit< tt, (λ e. ome
 facet-three (suc (suc (suc zero))) l = (0, 1, 2, lit< tt, lit< tt, lit< tt, (λ e. omega arith, λ e. omega arith, λ e. omega arith), refl)
 facet-three (suc (suc (suc (suc c)))) l = absurd (omega arith)
 
--- and there is only one way to leave out c
+-- and three that rise and leave out c are these
 pub three-facet : (c i j k : ℕ) → c < 4 → i < j → j < k → k < 4 → i ≢ c → j ≢ c → k ≢ c → facet 4 c ≡ i ∷ j ∷ k ∷ []
 unfolding facet pick gather only
 three-facet zero i j k lc ij jk k4 ni nj nk = let e : 1 ≡ i = omega (arith, ni) in let f : 2 ≡ j = omega arith in let g : 3 ≡ k = omega arith in rw (e, f, g)

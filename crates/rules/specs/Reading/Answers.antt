@@ -27,48 +27,57 @@ use Rattle.rules.specs.Reading.Skin.{Inside, inside-reads, OnSkin, skin-
 
 -- ---- the five cases
 
--- `Skin c`: the triangle of row r that leaves out corner c is on the skin. `Other s`: row s is on the other side.
-module _ (t : Table) (Skin Other : ℕ → Type 0) (r : ℕ) where
+-- row s holds the edge of row r with corners i and j
+abbrev pub HoldsEdge : Table → ℕ → ℕ → ℕ → ℕ → Type 0
+HoldsEdge t r i j s = Holds t s (t .id r i) × Holds t s (t .id r j)
+
+-- `Other s`: row s is on the other side
+module _ (t : Table) (Other : ℕ → Type 0) where
   -- some row of the other side
   abbrev pub SomeOther : (ℕ → Type 0) → Type 0
   SomeOther P = (s : ℕ) × (s < t .rows) × Other s × P s
 
-  abbrev pub HoldsEdge : ℕ → ℕ → ℕ → Type 0
-  HoldsEdge i j s = Holds t s (t .id r i) × Holds t s (t .id r j)
+  -- it holds the one edge of row r that is in neither of the triangles that leave out c and d
+  abbrev pub HoldsNeither : ℕ → ℕ → ℕ → Type 0
+  HoldsNeither r c d =
+      (i : ℕ) × (j : ℕ) × (i < j) × (j < t .corners) × (InTriangle c i j → ⊥) × (InTriangle d i j → ⊥) × SomeOther (HoldsEdge t r i j)
 
+-- `Skin c`: the triangle of row r that leaves out corner c is on the skin
+module _ (t : Table) (Skin Other : ℕ → Type 0) (r : ℕ) where
   -- f = 0: a row of the other side holds one of the vertices
   abbrev pub Refuses0 : Type 0
-  Refuses0 = ((c : ℕ) → c < t .corners → Skin c → ⊥) × ((c : ℕ) × (c < t .corners) × SomeOther (λ s. Holds t s (t .id r c)))
+  Refuses0 = ((c : ℕ) → c < t .corners → Skin c → ⊥) × ((c : ℕ) × (c < t .corners) × SomeOther t Other (λ s. Holds t s (t .id r c)))
 
   -- f = 1: it holds the vertex opposite the skin triangle
   abbrev pub Refuses1 : Type 0
-  Refuses1 = (x : ExactlyOne (t .corners) Skin) × SomeOther (λ s. Holds t s (t .id r (x .one)))
-
-  -- it holds the one edge that is in neither of the triangles that leave out c and d
-  abbrev pub HoldsNeither : ℕ → ℕ → Type 0
-  HoldsNeither c d =
-      (i : ℕ) × (j : ℕ) × (i < j) × (j < t .corners) × (InTriangle c i j → ⊥) × (InTriangle d i j → ⊥) × SomeOther (HoldsEdge i j)
+  Refuses1 = (x : ExactlyOne (t .corners) Skin) × SomeOther t Other (λ s. Holds t s (t .id r (x .one)))
 
   -- f = 2: it holds the one edge that is in neither skin triangle
   abbrev pub Refuses2 : Type 0
-  Refuses2 = (x : ExactlyTwo (t .corners) Skin) × HoldsNeither (x .one) (x .two)
+  Refuses2 = (x : ExactlyTwo (t .corners) Skin) × HoldsNeither t Other r (x .one) (x .two)
 
   abbrev pub Refuses : Type 0
   Refuses = Refuses0 ⊎ (Refuses1 ⊎ Refuses2)
 
-  -- that edge has the two left-out corners
-  pub neither-holds : (c d : ℕ) → c < t .corners → d < t .corners → c ≢ d → HoldsNeither c d ↔ SomeOther (HoldsEdge c d)
-  neither-holds c d lc ld ne = (forth, back)
+  -- the edge that is in neither has the two left-out corners
+  pub neither-holds : (x : ExactlyTwo (t .corners) Skin) → HoldsNeither t Other r (x .one) (x .two) ↔ SomeOther t Other (HoldsEdge t r (x .one) (x .two))
+  neither-holds x = (forth, back)
     where
-      forth : HoldsNeither c d → SomeOther (HoldsEdge c d)
+      forth : HoldsNeither t Other r (x .one) (x .two) → SomeOther t Other (HoldsEdge t r (x .one) (x .two))
       forth (i, j, l, m, p, q, (s, ls, o, (hi, hj))) =
           ⊎-elim (λ (e, f). (s, ls, o, (rw e at hi, rw f at hj))) (λ (e, f). (s, ls, o, (rw f at hj, rw e at hi)))
-          (in-neither c d i j ne (λ (e : i ≡ j). omega arith) .0 (p, q))
+          (in-neither (x .one) (x .two) i j (x .differ) (λ (e : i ≡ j). omega arith) .0 (p, q))
 
-      back : SomeOther (HoldsEdge c d) → HoldsNeither c d
+      back : SomeOther t Other (HoldsEdge t r (x .one) (x .two)) → HoldsNeither t Other r (x .one) (x .two)
       back (s, ls, o, (hc, hd)) =
-          ⊎-elim (λ (l : c < d). let (p, q) = in-neither c d c d ne ne .1 (inl (refl, refl)) in (c, d, l, ld, p, q, (s, ls, o, (hc, hd))))
-          (λ (l : d < c). let (p, q) = in-neither c d d c ne (Ne·symm ne) .1 (inr (refl, refl)) in (d, c, l, lc, p, q, (s, ls, o, (hd, hc)))) (lower-or-higher c d ne)
+          ⊎-elim
+          (λ (l : x .one < x .two).
+          let (p, q) = in-neither (x .one) (x .two) (x .one) (x .two) (x .differ) (x .differ) .1 (inl (refl, refl)) in
+          (x .one, x .two, l, x .two-below, p, q, (s, ls, o, (hc, hd))))
+          (λ (l : x .two < x .one).
+          let (p, q) = in-neither (x .one) (x .two) (x .two) (x .one) (x .differ) (Ne·symm (x .differ)) .1 (inr (refl, refl)) in
+          (x .two, x .one, l, x .one-below, p, q, (s, ls, o, (hd, hc))))
+          (lower-or-higher (x .one) (x .two) (x .differ))
 
 -- the same skin triangles and the same other side
 pub refuses-map : (t : Table) (r : ℕ) {S S′ O O′ : ℕ → Type 0} → ((c : ℕ) → S c ↔ S′ c) → ((s : ℕ) → O s ↔ O′ s) → Refuses t S O r → Refuses t S′ O′ r
@@ -92,7 +101,7 @@ module _ (t : Table) (inside : ℕ → Bool) (adding : Bool) (r : ℕ) where
   abbrev Other : ℕ → Type 0
   Other s = inside s ≡ adding
 
-  free-reads : (face : List ℕ) → (free t (otherSide adding inside) r face ≡ false) ↔ SomeOther t Skin Other r (HoldsFace t r face)
+  free-reads : (face : List ℕ) → (free t (otherSide adding inside) r face ≡ false) ↔ SomeOther t Other (HoldsFace t r face)
   unfolding free
   free-reads face = (
     λ e.
@@ -158,16 +167,13 @@ module _ (t : Table) (inside : ℕ → Bool) (adding : Bool) (r : ℕ) where
     λ e.
         let x = count-two (t .corners) (onSkin t inside r) two in
         let (s, l, o, h) = free-reads leftOut .0 (sym value ∙ e) in
-        (x, edge x .1 (s, l, o, (holds-left-out s .0 h (x .one) (x .one-below) (x .one-is), holds-left-out s .0 h (x .two) (x .two-below) (x .two-is)))),
-    λ (x, held). let (s, l, o, (h, k)) = edge x .0 held in
+        (x, neither-holds t Skin Other r x .1 (s, l, o, (holds-left-out s .0 h (x .one) (x .one-below) (x .one-is), holds-left-out s .0 h (x .two) (x .two-below) (x .two-is)))),
+    λ (x, held). let (s, l, o, (h, k)) = neither-holds t Skin Other r x .0 held in
         value ∙ free-reads leftOut .1 (s, l, o, holds-left-out s .1 (λ c m q. ⊎-elim (λ (e : c ≡ x .one). rw e h) (λ (e : c ≡ x .two). rw e k) (x .only c m q))),
   )
     where
       value : passes t inside adding r ≡ free t (otherSide adding inside) r leftOut
       value = rw two
-
-      edge : (x : ExactlyTwo (t .corners) Skin) → HoldsNeither t Skin Other r (x .one) (x .two) ↔ SomeOther t Skin Other r (HoldsEdge t Skin Other r (x .one) (x .two))
-      edge x = neither-holds t Skin Other r (x .one) (x .two) (x .one-below) (x .two-below) (x .differ)
 
   -- f = 3 and f = 4 pass
   case-more : f ≢ 0 → f ≢ 1 → f ≢ 2 → passes t inside adding r ≡ true

@@ -301,12 +301,14 @@ module _ (f : Form) (bytes : List ℕ) (lent : Lent) where
   unfolding roomTests firstMatch given found
   room-passes room = rw (is-false (roomShort f (headerOf bytes) lent) (λ e. room (room-reads f (headerOf bytes) lent .0 e)))
 
-  -- a file that is laid out, with room enough and sections that pass, is run
-  pub run-fits : firstMatch 1 (layoutTests f bytes) .code ≡ 0 → (RoomShort f (headerOf bytes) lent → ⊥) → firstMatch 5 (sectionTests (jobOf f bytes)) .code ≡ 0
-      → run f bytes lent ≡ accepted (jobOf f bytes) lent
+  -- a file that is laid out and reads as a header and a job, with room enough and sections that pass, is run
+  pub run-as : (h : Header) (job : Job) → headerOf bytes ≡ h → jobOf f bytes ≡ job → firstMatch 1 (layoutTests f bytes) .code ≡ 0 → (RoomShort f h lent → ⊥)
+      → firstMatch 5 (sectionTests job) .code ≡ 0 → run f bytes lent ≡ accepted job lent
   unfolding verdictOn jobTests layoutTests roomTests
-  run-fits laid room sections =
-      run-accepted (match-both 1 (zero-lt-suc 0) (layoutTests f bytes) _ laid (match-both 4 (zero-lt-suc 3) (roomTests f (headerOf bytes) lent) _ (room-passes room) sections))
+  run-as h job header is laid room sections =
+      run-accepted (match-both 1 (zero-lt-suc 0) (layoutTests f bytes) _ laid
+      (match-both 4 (zero-lt-suc 3) (roomTests f (headerOf bytes) lent) _ (room-passes (rw header room)) (rw is sections)))
+      ∙ ap (λ (j : Job). accepted j lent) is
 
   -- ---- what an accepted job keeps
 
