@@ -1,0 +1,151 @@
+/* Runs track jobs, from C (C99 and later) and C++.
+ *
+ * `rt staticlib track_c` makes the archive with the one function below,
+ * target/staticlib/libtrack_c.a. It is x86-64 code, and of the C library it
+ * needs memset alone. examples/outcome.c is a program that uses it. */
+
+#ifndef TRACK_H
+#define TRACK_H
+
+#include <stddef.h>
+#include <stdint.h>
+
+/* A job has V vertex ids, N rows, a mark for each row, and P proposals. Its
+ * file, in words of four bytes, low byte first:
+ *
+ *     at byte         there stand
+ *     0               V, N, P, 32, 32 + 16N, 32 + 17N, 32 + 17N + 8P, 0
+ *     32              N rows of four words, the ids of one tetrahedron at its
+ *                     corners 0 to 3
+ *     32 + 16N        N marks of one byte, 1 inside or 0 outside
+ *     32 + 17N        P proposals of two words, row number and kind, 1 add or
+ *                     2 remove
+ *     32 + 17N + 8P   nothing: the file ends
+ *
+ * The ids of a row rise strictly and are below V; the rows rise strictly in
+ * dictionary order. Id 0 is the infinite vertex; a row that holds it is an outer
+ * row. The skin is the triangles that are in exactly one inside row.
+ *
+ * The limits of V, N and P: */
+#define TRACK_FEWEST_IDS 5
+#define TRACK_MOST_IDS 1024
+#define TRACK_FEWEST_ROWS 5
+#define TRACK_MOST_ROWS 2048
+#define TRACK_FEWEST_PROPOSALS 0
+#define TRACK_MOST_PROPOSALS 1024
+
+/* The length of a job and of what must be lent for it, for N and P within their
+ * limits. Each is in elements, bytes or 32-bit words as the parameter's type
+ * says. */
+#define TRACK_JOB_LEN(n, p) (32 + 17 * (n) + 8 * (p))
+#define TRACK_ANSWERS_LEN(p) (p)
+#define TRACK_FINAL_MARKS_LEN(n) (n)
+#define TRACK_TRIANGLES_LEN(n) (6 * (n))
+#define TRACK_WORK_LEN(n) (4 * (n))
+
+/* The same for the largest job: buffers of these lengths serve every job. */
+#define TRACK_MOST_JOB_LEN TRACK_JOB_LEN(TRACK_MOST_ROWS, TRACK_MOST_PROPOSALS)
+#define TRACK_MOST_ANSWERS_LEN TRACK_ANSWERS_LEN(TRACK_MOST_PROPOSALS)
+#define TRACK_MOST_FINAL_MARKS_LEN TRACK_FINAL_MARKS_LEN(TRACK_MOST_ROWS)
+#define TRACK_MOST_TRIANGLES_LEN TRACK_TRIANGLES_LEN(TRACK_MOST_ROWS)
+#define TRACK_MOST_WORK_LEN TRACK_WORK_LEN(TRACK_MOST_ROWS)
+
+/* A call takes at most so many bytes of stack, what the caller passes on the
+ * stack included. With less the system stops the program. */
+#define TRACK_STACK 100000
+
+/* What each word of the outcome is. */
+enum track_outcome {
+    TRACK_OUTCOME_CODE,      /* an enum track_code */
+    TRACK_OUTCOME_PLACE,     /* the row or vertex that is named with the code */
+    TRACK_OUTCOME_TAKEN,     /* how many proposals were taken */
+    TRACK_OUTCOME_TRIANGLES, /* how many triangles the skin has at the end */
+    TRACK_OUTCOME_LEN        /* the number of words */
+};
+
+/* Job codes. The first that applies is given; all but the first refuse the job,
+ * and a refusal has zero for both counts. The place is 0 where none is named. */
+enum track_code {
+    TRACK_CODE_RUN = 0,
+    TRACK_CODE_SHORT = 1,    /* under 32 bytes */
+    TRACK_CODE_LIMITS = 2,   /* V, N or P outside its limits */
+    TRACK_CODE_LAYOUT = 3,   /* a word 3 to 7 of the header is not as above, or
+                                word 6 is not job_len */
+    TRACK_CODE_ROOM = 4,     /* a lent buffer is shorter than its _LEN above */
+    TRACK_CODE_ROW = 5,      /* ids that do not rise strictly, or an id not
+                                below V; place: the first such row */
+    TRACK_CODE_ORDER = 6,    /* a row not after the one before it; place: the
+                                first such row */
+    TRACK_CODE_TRIANGLE = 7, /* a triangle that is not in exactly two rows;
+                                place: the lowest row with one */
+    TRACK_CODE_EDGE = 8,     /* two rows hold an edge and no chain of neighbours
+                                that all hold it joins them; place: the lowest
+                                row with such an edge */
+    TRACK_CODE_VERTEX = 9,   /* the same for a vertex */
+    TRACK_CODE_MARK = 10,    /* a mark that is not 0 or 1; place: the first such
+                                row */
+    TRACK_CODE_OUTER = 11,   /* an outer row marked inside; place: the first
+                                such row */
+    TRACK_CODE_RING = 12     /* the starting skin is not clean; place: the
+                                lowest skin vertex whose far edges do not form
+                                one ring */
+};
+
+/* Proposal answers. The first that applies is given, TAKEN where no other does;
+ * only TAKEN changes a mark, the named one. */
+enum track_answer {
+    TRACK_ANSWER_TAKEN = 0,
+    TRACK_ANSWER_ROW = 1,     /* row number not below N */
+    TRACK_ANSWER_KIND = 2,    /* kind not 1 or 2 */
+    TRACK_ANSWER_OUTER = 3,   /* outer row */
+    TRACK_ANSWER_ALREADY = 4, /* add of an inside row, remove of an outside row */
+    TRACK_ANSWER_UNCLEAN = 5  /* the five cases refuse: the skin would not
+                                 stay clean */
+};
+
+#ifdef __cplusplus
+extern "C" {
+#endif
+
+/* Runs a job: checks its table and its marks, answers its proposals and lists
+ * the skin.
+ *
+ * Every call returns, whatever bytes the job has and whatever the buffers hold.
+ * It reads and writes nothing outside the lengths given, takes no memory but
+ * the stack, and keeps nothing, so threads may call it at the same time, each
+ * with buffers and an outcome of its own; a job may be shared.
+ *
+ * Each buffer is a pointer and its length in elements, not bytes. The buffers
+ * must not overlap each other, the job or the outcome. A pointer may be null if
+ * its length is 0. A buffer may be longer than the job needs.
+ *
+ * A refusal leaves answers, final_marks and triangles as they were.
+ *
+ * job          the bytes of the file, only read
+ * answers      TRACK_ANSWERS_LEN bytes. Code 0 leaves the P answers, an enum
+ *              track_answer each, in the order of the proposals.
+ * final_marks  TRACK_FINAL_MARKS_LEN bytes. Code 0 leaves the N marks after the
+ *              last proposal.
+ * triangles    TRACK_TRIANGLES_LEN words. Code 0 leaves the skin after the last
+ *              proposal, three rising ids for each triangle, as many triangles
+ *              as the outcome says: by inside row, then by the corner of the
+ *              row that the triangle leaves out, 0 to 3. There are at most 2N.
+ * work         TRACK_WORK_LEN words. Code 0 leaves the neighbour list there:
+ *              word 4r + c is the row across the triangle of row r that leaves
+ *              out its corner c. Codes 1 to 4 leave work as it was; codes 5 to
+ *              12 leave zero in its first 4N words.
+ * outcome      TRACK_OUTCOME_LEN words, all written by every call
+ *
+ * Of each buffer, what stands behind these bytes and words is never changed. */
+void track_run(const uint8_t *job, size_t job_len,
+               uint8_t *answers, size_t answers_len,
+               uint8_t *final_marks, size_t final_marks_len,
+               uint32_t *triangles, size_t triangles_len,
+               uint32_t *work, size_t work_len,
+               uint32_t outcome[TRACK_OUTCOME_LEN]);
+
+#ifdef __cplusplus
+}
+#endif
+
+#endif
