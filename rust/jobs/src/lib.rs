@@ -7,6 +7,7 @@ mod job;
 mod random;
 pub mod tables;
 pub mod text;
+pub mod worst;
 
 pub use job::{Job, Table};
 pub use random::Random;
