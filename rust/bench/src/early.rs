@@ -1,7 +1,8 @@
 //! Jobs that stop early. The proved engine has no stage times of its own; a
 //! refused job shows the time up to its code.
 
-use crate::{families, micros, time};
+use crate::{families, time};
+use bench::micros;
 use common::{Buffers, EDGES, MOST_PROPOSALS, MOST_ROWS};
 use jobs::{growth, tables, Job, Random, Table};
 use std::collections::HashMap;

@@ -3,7 +3,8 @@
 
 mod early;
 
-use common::{Buffers, MOST_PROPOSALS, MOST_ROWS};
+use bench::{micros, Timed};
+use common::{MOST_PROPOSALS, MOST_ROWS};
 use jobs::{growth, tables, Job, Random, Table};
 use plain::Stages;
 use std::time::{Duration, Instant};
@@ -70,10 +71,6 @@ fn main() {
     early::print();
 }
 
-fn micros(time: Duration) -> String {
-    format!("{:.1}", time.as_secs_f64() * 1e6)
-}
-
 fn start(job: &Job) -> &'static str {
     if job.marks.contains(&1) {
         "grown"
@@ -125,34 +122,21 @@ struct Times {
 }
 
 fn time(job: &Job) -> Times {
-    let mut buffers = Buffers::zeros(job.rooms());
-    let job = job.bytes();
-    let outcome = track::run(&job, buffers.lend());
-    let mut times = Times {
-        code: outcome.code,
-        taken: outcome.taken,
-        triangles: outcome.triangles,
-        track: Duration::MAX,
-        plain: Duration::MAX,
-        stages: stages(&job, &mut buffers),
-    };
+    let mut timed = Timed::new(job);
+    let mut stages = timed.stages();
     let begun = Instant::now();
     while begun.elapsed() < TIME {
-        let before = Instant::now();
-        track::run(&job, buffers.lend());
-        times.track = times.track.min(before.elapsed());
-        let before = Instant::now();
-        plain::run(&job, buffers.lend());
-        times.plain = times.plain.min(before.elapsed());
-        times.stages = least(&times.stages, &stages(&job, &mut buffers));
+        timed.run();
+        stages = least(&stages, &timed.stages());
     }
-    times
-}
-
-fn stages(job: &[u8], buffers: &mut Buffers) -> Stages {
-    let mut stages = Stages::default();
-    plain::run_timed(job, buffers.lend(), &mut stages);
-    stages
+    Times {
+        code: timed.outcome.code,
+        taken: timed.outcome.taken,
+        triangles: timed.outcome.triangles,
+        track: timed.track,
+        plain: timed.plain,
+        stages,
+    }
 }
 
 fn least(x: &Stages, y: &Stages) -> Stages {

@@ -1,0 +1,51 @@
+//! Timing of the proved engine beside `plain`.
+
+use common::{Buffers, Outcome};
+use jobs::Job;
+use plain::Stages;
+use std::time::{Duration, Instant};
+
+/// A job with the buffers lent for it, which are not cleared between its runs,
+/// and the best time of each engine.
+pub struct Timed {
+    job: Vec<u8>,
+    buffers: Buffers,
+    pub outcome: Outcome,
+    pub track: Duration,
+    pub plain: Duration,
+}
+
+impl Timed {
+    pub fn new(job: &Job) -> Timed {
+        let mut buffers = Buffers::zeros(job.rooms());
+        let job = job.bytes();
+        Timed {
+            outcome: track::run(&job, buffers.lend()),
+            job,
+            buffers,
+            track: Duration::MAX,
+            plain: Duration::MAX,
+        }
+    }
+
+    /// Runs both engines once more.
+    pub fn run(&mut self) {
+        let before = Instant::now();
+        track::run(&self.job, self.buffers.lend());
+        self.track = self.track.min(before.elapsed());
+        let before = Instant::now();
+        plain::run(&self.job, self.buffers.lend());
+        self.plain = self.plain.min(before.elapsed());
+    }
+
+    /// The stages of one run of `plain`.
+    pub fn stages(&mut self) -> Stages {
+        let mut stages = Stages::default();
+        plain::run_timed(&self.job, self.buffers.lend(), &mut stages);
+        stages
+    }
+}
+
+pub fn micros(time: Duration) -> String {
+    format!("{:.1}", time.as_secs_f64() * 1e6)
+}
