@@ -2,8 +2,7 @@
 //! that are refused late, and one that makes most stages long at once.
 //! `docs/SPEED.md` has the bounds.
 //!
-//! Chains are told by the proved engine's key of three ids, a + 89 b + 7919 c
-//! modulo 8192; an edge and a vertex repeat their last id.
+//! Chains are of faces that the proved engine has one key for (`key_of`).
 
 use crate::{growth, tables, Job, Random, Table};
 use common::{MOST_IDS, MOST_PROPOSALS, MOST_ROWS};
@@ -12,6 +11,11 @@ use std::collections::BTreeSet;
 const KEYS: u32 = 8192;
 const ONE_89TH: u32 = 2025;
 const ONE_273RD: u32 = 4081;
+
+/// The key of a triangle; an edge and a vertex repeat their last id.
+fn key_of([a, b, c]: [u32; 3]) -> u32 {
+    (a + 89 * b + 7919 * c) % KEYS
+}
 
 /// The triangles of five ids.
 const TRIANGLES_OF_FIVE: [[usize; 3]; 10] = [
@@ -126,8 +130,9 @@ impl Parts {
 /// at the first place where it gets the same four keys and no id twice.
 ///
 /// Joins do not come nearer to one chain: a ring has at least three ids, and
-/// edges of at least two keys, which makes four. Longer rings leave ids over,
-/// and so rows, where no join begins; `KEY` and eleven were tried out.
+/// edges of at least two keys, which makes four. With longer rings fewer joins
+/// find ids; with shorter ones the edge with a key of its own weighs more.
+/// `KEY` and eleven were tried out.
 fn chains() -> Parts {
     const KEY: u32 = 1519;
     const RING: u32 = 11;
@@ -189,11 +194,10 @@ fn ids_shared(shared: u32) -> Job {
 
 /// Job A's tables on fives of ids that have ids in common but no triangle, so
 /// that code 7 is passed. Three of the ten triangles of each have one key.
-/// Twelve keys were tried: to each there are 700 fives or more with three such
-/// triangles, and in all there is one with four.
+/// Twelve keys were tried: each has 686 fives or more with three such triangles,
+/// and all of them together have one with four.
 fn crowded_chains() -> Job {
     const KEY: u32 = 3310;
-    let key = |[a, b, c]: [u32; 3]| (a + 89 * b + 7919 * c) % KEYS;
     let mut triangles_at = vec![Vec::new(); MOST_IDS];
     for b in 0..MOST_IDS as u32 {
         for a in 0..b {
@@ -216,8 +220,8 @@ fn crowded_chains() -> Job {
                 let mut five = [*first, *second].concat();
                 five.sort_unstable();
                 five.dedup();
-                let with_key = |five| triangles(five).into_iter().filter(|&t| key(t) == KEY);
-                if five.len() == 5 && with_key(&five).count() >= 3 {
+                let of_key = |five| triangles(five).into_iter().filter(|&t| key_of(t) == KEY);
+                if five.len() == 5 && of_key(&five).count() >= 3 {
                     fives.insert(five);
                 }
             }
@@ -340,4 +344,65 @@ fn all_at_once() -> Job {
     let mut job = parts.job();
     job.proposals = vec![[first_of_last(&job), Job::ADD]; MOST_PROPOSALS];
     job
+}
+
+#[cfg(test)]
+mod tests {
+    use super::*;
+    use common::{EDGES, TRIANGLES};
+
+    /// Each place of a triangle walks its whole chain.
+    fn triangle_steps(job: &Job) -> usize {
+        let mut lengths = [0; KEYS as usize];
+        for row in &job.rows {
+            for triangle in TRIANGLES {
+                lengths[key_of(triangle.map(|t| row[t])) as usize] += 1;
+            }
+        }
+        lengths.iter().map(|length| length * length).sum()
+    }
+
+    /// Each place of an edge walks its chain up to the first place of the edge.
+    fn edge_steps(job: &Job) -> usize {
+        let mut chains = vec![Vec::new(); KEYS as usize];
+        let mut steps = 0;
+        for row in &job.rows {
+            for [a, b, ..] in EDGES {
+                let edge = [row[a], row[b], row[b]];
+                let chain = &mut chains[key_of(edge) as usize];
+                let first = chain.iter().position(|&other| other == edge);
+                steps += first.unwrap_or(chain.len());
+                chain.push(edge);
+            }
+        }
+        steps
+    }
+
+    #[test]
+    fn chains_are_as_long_as_they_are_meant_to_be() {
+        assert_eq!(triangle_steps(&usual()), 24_296);
+        assert_eq!(triangle_steps(&triangle_chains()), 3_076_360);
+        assert_eq!(triangle_steps(&all_at_once()), 3_076_368);
+        assert_eq!(triangle_steps(&crowded_chains()), 6_130_216);
+        assert_eq!(edge_steps(&usual()), 4_978);
+        assert_eq!(edge_steps(&edge_chains()), 1_332_492);
+    }
+
+    /// What the bounds of edge chains in `docs/SPEED.md` rest on.
+    #[test]
+    fn few_edges_have_one_key() {
+        let mut lengths = [0; KEYS as usize];
+        for b in 0..MOST_IDS as u32 {
+            for a in 0..b {
+                lengths[key_of([a, b, b]) as usize] += 1;
+            }
+        }
+        assert_eq!(lengths.iter().max(), Some(&68));
+
+        // The gaps of four ids a, b, c, d of which ab, bc and cd have one key.
+        let gaps = |last: u32| [184 * 184 * last % KEYS, 184 * last % KEYS, last];
+        let fits = |gaps: &[u32; 3]| gaps.iter().sum::<u32>() < MOST_IDS as u32;
+        let found: Vec<[u32; 3]> = (1..MOST_IDS as u32).map(gaps).filter(fits).collect();
+        assert_eq!(found, [[128, 624, 226], [64, 312, 625]]);
+    }
 }
