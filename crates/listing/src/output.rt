@@ -1,6 +1,7 @@
 // Standard output: a whole listing, or none and a message.
 use libc::SEEK_CUR;
 use libc::SEEK_END;
+use libc::SEEK_SET;
 use libc::STDOUT_FILENO;
 ghost use Prim.Native.Nat.{_≤_};
 ghost use lib.ListN.{length};
@@ -36,6 +37,8 @@ fn take_back(back: i64) {
     let end = libc::lseek(STDOUT_FILENO, 0, SEEK_CUR);
     if libc::lseek(STDOUT_FILENO, 0, SEEK_END) == end {
         libc::ftruncate(STDOUT_FILENO, libc::lseek(STDOUT_FILENO, back, SEEK_CUR));
+    } else {
+        libc::lseek(STDOUT_FILENO, end, SEEK_SET);
     }
 }
 
