@@ -4,7 +4,8 @@
 #include <stdio.h>
 #include "track.h"
 
-/* One byte more than a job can have: a longer file is refused by its front. */
+/* One byte more than a job can have. So much of a longer file is enough: no job
+ * is as long, and it gets the code of the whole file. */
 static uint8_t job[TRACK_MOST_JOB_LEN + 1];
 static uint8_t answers[TRACK_MOST_ANSWERS_LEN];
 static uint8_t final_marks[TRACK_MOST_FINAL_MARKS_LEN];

@@ -1,8 +1,9 @@
-/* Runs track jobs, from C (C99 and later) and C++.
+/* Runs track jobs, from C (C99 and later) and C++. docs/JOBS.md explains every
+ * word used here.
  *
  * `rt staticlib track_c` makes the archive with the one function below,
- * target/staticlib/libtrack_c.a. It is x86-64 code, and of the C library it
- * needs memset alone. examples/outcome.c is a program that uses it. */
+ * target/staticlib/libtrack_c.a. It is x86-64 code for Linux, and of the C
+ * library it needs memset alone. examples/outcome.c is a program that uses it. */
 
 #ifndef TRACK_H
 #define TRACK_H
@@ -37,7 +38,8 @@
 /* The length of a job and of what must be lent for it, for N and P within their
  * limits. Each is in elements, bytes or 32-bit words as the parameter's type
  * says. */
-#define TRACK_JOB_LEN(n, p) (32 + 17 * (n) + 8 * (p))
+#define TRACK_HEADER_LEN 32
+#define TRACK_JOB_LEN(n, p) (TRACK_HEADER_LEN + 17 * (n) + 8 * (p))
 #define TRACK_ANSWERS_LEN(p) (p)
 #define TRACK_FINAL_MARKS_LEN(n) (n)
 #define TRACK_TRIANGLES_LEN(n) (6 * (n))
@@ -50,8 +52,16 @@
 #define TRACK_MOST_TRIANGLES_LEN TRACK_TRIANGLES_LEN(TRACK_MOST_ROWS)
 #define TRACK_MOST_WORK_LEN TRACK_WORK_LEN(TRACK_MOST_ROWS)
 
+/* What a proposal asks for, its second word. */
+enum track_kind {
+    TRACK_KIND_ADD = 1,
+    TRACK_KIND_REMOVE = 2
+};
+
 /* A call takes at most so many bytes of stack, what the caller passes on the
- * stack included. With less the system stops the program. */
+ * stack included. With less the system stops the program, unless it is a thread
+ * whose guard area is smaller than what is missing: then memory beside its
+ * stack is overwritten. */
 #define TRACK_STACK 100000
 
 /* What each word of the outcome is. */
@@ -71,7 +81,8 @@ enum track_code {
     TRACK_CODE_LIMITS = 2,   /* V, N or P outside its limits */
     TRACK_CODE_LAYOUT = 3,   /* a word 3 to 7 of the header is not as above, or
                                 word 6 is not job_len */
-    TRACK_CODE_ROOM = 4,     /* a lent buffer is shorter than its _LEN above */
+    TRACK_CODE_ROOM = 4,     /* a lent buffer is shorter than its _LEN above; it
+                                is not said which */
     TRACK_CODE_ROW = 5,      /* ids that do not rise strictly, or an id not
                                 below V; place: the first such row */
     TRACK_CODE_ORDER = 6,    /* a row not after the one before it; place: the
@@ -134,7 +145,7 @@ extern "C" {
  *              word 4r + c is the row across the triangle of row r that leaves
  *              out its corner c. Codes 1 to 4 leave work as it was; codes 5 to
  *              12 leave zero in its first 4N words.
- * outcome      TRACK_OUTCOME_LEN words, all written by every call
+ * outcome      TRACK_OUTCOME_LEN words, all written by every call; never null
  *
  * Of each buffer, what stands behind these bytes and words is never changed. */
 void track_run(const uint8_t *job, size_t job_len,

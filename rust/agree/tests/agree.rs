@@ -81,7 +81,10 @@ fn stored_jobs() {
             }
         }
         comparer.report("stored jobs");
-        assert_eq!(comparer.jobs, 16);
+        // They show each code but 4, which is about room.
+        for (code, &count) in comparer.codes.iter().enumerate() {
+            assert_eq!(count > 0, code != 4, "code {code}");
+        }
     });
 }
 

@@ -35,8 +35,9 @@ pub fn to_bytes(text: &str) -> Result<Vec<u8>, String> {
         let Some(name) = items.next() else {
             continue;
         };
+        let not_an_item = || format!("line {line_number}: not an item: {}", line.trim());
         let numbers: Result<Vec<u32>, _> = items.map(str::parse).collect();
-        let numbers = numbers.map_err(|error| format!("line {line_number}: {error}"))?;
+        let numbers = numbers.map_err(|_| not_an_item())?;
         match (name, numbers.as_slice()) {
             ("ids", &[ids]) => job.ids = ids,
             ("row", &[a, b, c, d]) => job.rows.push([a, b, c, d]),
@@ -53,7 +54,7 @@ pub fn to_bytes(text: &str) -> Result<Vec<u8>, String> {
                 words.push((WORD_BYTES * word as usize, value));
             }
             ("length", &[bytes]) => length = Some(bytes as usize),
-            _ => return Err(format!("line {line_number}: not an item: {}", line.trim())),
+            _ => return Err(not_an_item()),
         }
     }
     job.marks = vec![0; job.rows.len()];

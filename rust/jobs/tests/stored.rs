@@ -8,9 +8,9 @@ use std::path::{Path, PathBuf};
 
 const FOLDER: &str = concat!(env!("CARGO_MANIFEST_DIR"), "/../../jobs");
 
-const NAMES: [&str; 16] = [
-    "a", "b", "c", "cut", "d", "e", "f", "g", "h", "i", "j", "largest", "n2049", "n4", "short31",
-    "v6",
+const NAMES: [&str; 17] = [
+    "a", "b", "c", "cut", "d", "e", "f", "g", "gap", "h", "i", "j", "largest", "n2049", "n4",
+    "short31", "v6",
 ];
 
 fn path(name: &str, ending: &str) -> PathBuf {

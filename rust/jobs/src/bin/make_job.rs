@@ -3,14 +3,22 @@
 use std::process::ExitCode;
 use std::{env, fs};
 
-const USAGE: &str = "make_job IN.txt OUT.job\nmake_job --text IN.job";
+const USAGE: &str = "usage: ./make_job TEXT JOB      makes a job file of its text
+       ./make_job --text JOB    prints the text of a job file";
 
 fn main() -> ExitCode {
     let arguments: Vec<String> = env::args().skip(1).collect();
     let result = match arguments.as_slice() {
+        [flag] if flag == "--help" || flag == "-h" => {
+            println!("{USAGE}");
+            Ok(())
+        }
         [flag, job] if flag == "--text" => print_text(job),
         [text, job] => make_job(text, job),
-        _ => Err(USAGE.to_string()),
+        _ => {
+            eprintln!("{USAGE}");
+            return ExitCode::from(2);
+        }
     };
     match result {
         Ok(()) => ExitCode::SUCCESS,
