@@ -3,12 +3,25 @@ use libc::STDIN_FILENO;
 ghost use mathlib.Core.Path.{_≡_};
 ghost use Prim.Native.Nat.{_+_, _≤_};
 ghost use lib.ListN.{length};
-ghost use Rattle.io.specs.Counts.{Counts};
+ghost use lib.IntN.{pos};
+ghost use lib.Signed.{ltZ};
+ghost use Rattle.io.specs.Counts.{Counts, clamped};
 
 // How many bytes came, and whether a read failed: an error of the disk is not the end of the input.
 pub(crate) struct Input {
     pub(crate) count: usize,
     pub(crate) failed: bool,
+}
+
+// What C's answer to one read into a part of the job's room says: below zero it failed, zero is the end.
+fn answered(got: isize, part: &[u8]) -> Input
+    ensures { λ r. ⌜ Counts (r .count) (now (part .entry)) ⌝ }
+    ensures { λ r. ⌜ (r .count ≡ clamped got (length (now (part .entry)))) × (r .failed ≡ ltZ got (pos 0)) ⌝ }
+{
+    Input {
+        count: io::count(got, part),
+        failed: got < 0,
+    }
 }
 
 // One read into the job's room, from byte `at` on.
@@ -18,10 +31,7 @@ fn read_from(job: &mut [u8], at: usize) -> Input
 {
     let part = &mut job[at..];
     let got = libc::read(STDIN_FILENO, part);
-    Input {
-        count: io::count(got, part),
-        failed: got < 0,
-    }
+    answered(got, part)
 }
 
 pub(crate) fn read_job(job: &mut [u8]) -> Input

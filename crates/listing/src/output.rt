@@ -43,19 +43,15 @@ fn take_back(back: i64) {
 }
 
 // Prints the text and answers true, or says why not and takes back what was printed of it. Some disks tell only at the close that they
-// are full.
+// are full; then nothing can be taken back.
 pub(crate) fn print_whole(text: &[u8]) -> bool {
     let printed = print(text);
-    if printed < text.len() {
-        os::fail(b"listing: the listing could not be printed");
-        take_back(-(printed as i64));
-        return false;
+    if printed == text.len() && libc::close(STDOUT_FILENO) == 0 {
+        return true;
     }
-    if libc::close(STDOUT_FILENO) < 0 {
-        os::fail(b"listing: the listing could not be printed");
-        return false;
-    }
-    true
+    os::fail(b"listing: the listing could not be printed");
+    take_back(-(printed as i64));
+    false
 }
 
 // Started with an argument, the program writes a word on descriptor 3 when the listing is printed whole. The script waits for the word.
