@@ -110,9 +110,18 @@ enum track_answer {
     TRACK_ANSWER_KIND = 2,    /* kind not 1 or 2 */
     TRACK_ANSWER_OUTER = 3,   /* outer row */
     TRACK_ANSWER_ALREADY = 4, /* add of an inside row, remove of an outside row */
-    TRACK_ANSWER_UNCLEAN = 5  /* the five cases refuse: the skin would not
-                                 stay clean */
+    /* The five cases refuse: the skin would not stay clean. A row of the other
+     * side, which is an inside row for an add and an outside row for a remove,
+     * holds what is in the way. */
+    TRACK_ANSWER_VERTICES = 5, /* f = 0, no triangle of the row is on the skin:
+                                  one of its vertices */
+    TRACK_ANSWER_OPPOSITE = 6, /* f = 1: the vertex opposite its skin triangle */
+    TRACK_ANSWER_EDGE = 7      /* f = 2: the edge in neither skin triangle */
 };
+
+/* Whether an answer is one of the five cases', 5, 6 or 7. */
+#define TRACK_REFUSED_BY_CASES(answer) \
+    ((answer) >= TRACK_ANSWER_VERTICES && (answer) <= TRACK_ANSWER_EDGE)
 
 #ifdef __cplusplus
 extern "C" {

@@ -15,7 +15,7 @@ use Rattle.rules.specs.Laws.First.{conditionAt, FirstOf}
 use Rattle.rules.specs.Reading.Neighbours.{Side}
 use Rattle.rules.specs.Reading.Skin.{Inside}
 use Rattle.rules.specs.Reading.Ring.{Clean}
-use Rattle.rules.specs.Reading.Answers.{answerConditions}
+use Rattle.rules.specs.Reading.Answers.{TrianglesOnSkin, answerConditions}
 use Rattle.rules.specs.Reading.Codes.{RoomShort, jobConditions}
 use Rattle.rules.specs.Reading.Listing.{ThreeRising, SideTriangle, InOrder}
 use Rattle.manifold.specs.Steps.{PassesEarlier, flipped, undoing}
@@ -32,6 +32,10 @@ CleanWith job marks = Clean (job .table) (Inside marks) (job .ids)
 -- proposal k passes the tests 1 to 4
 abbrev pub PassesAt : Job → ℕ → Type 0
 PassesAt job k = PassesEarlier (job .table) (standing job k) (proposalAt job k)
+
+-- f of the triangles of its row are on the skin of the marks then standing
+abbrev pub OnSkinAt : Job → ℕ → ℕ → Type 0
+OnSkinAt job k f = TrianglesOnSkin (job .table) (Inside (standing job k)) (proposalAt job k .row) f
 
 module _ (bytes : List ℕ) (before : Lent) (o : Outcome) (after : Lent) where
   abbrev pub job : Job
@@ -69,7 +73,7 @@ module _ (bytes : List ℕ) (before : Lent) (o : Outcome) (after : Lent) where
   pub record Demand2 : Type 0 where
     -- answer k is 1 + i exactly if row 1 + i of the table of answers holds of proposal k on the marks then standing and no row before it
     -- does, and 0 exactly if none does
-    pub answered-exactly : (k i : ℕ) → k < proposals → i < 5
+    pub answered-exactly : (k i : ℕ) → k < proposals → i < 7
         → (answerAt k ≡ 1 + i) ↔ ((place : ℕ) × FirstOf (answerConditions (job .table) (standing job k) (proposalAt job k)) i place)
     pub taken-exactly : (k : ℕ) → k < proposals
         → (answerAt k ≡ 0) ↔ ((i place : ℕ) → conditionAt (answerConditions (job .table) (standing job k) (proposalAt job k)) i place → ⊥)
@@ -112,10 +116,12 @@ module _ (bytes : List ℕ) (before : Lent) (o : Outcome) (after : Lent) where
     -- so are the final marks lent back
     pub final-standing : marksBack ≡ standing job proposals
     pub final-clean : CleanWith job marksBack
-    -- answer k is that of the five cases exactly if the tests 1 to 4 pass and the skin with the named mark flipped is not clean, and 0
-    -- exactly if they pass and it is
+    -- answer k is that of the five cases, 5, 6 or 7, exactly if the tests 1 to 4 pass and the skin with the named mark flipped is not
+    -- clean; each of the three exactly if f is 0, 1 or 2 as well; and 0 exactly if they pass and it is clean
     pub refused-only-then : (k : ℕ) → k < proposals
         → RefusedByCases (answerAt k) ↔ (PassesAt job k × (CleanWith job (flipped (standing job k) (proposalAt job k)) → ⊥))
+    pub each-case-only-then : (k f : ℕ) → k < proposals → f < 3
+        → (answerAt k ≡ 5 + f) ↔ (PassesAt job k × OnSkinAt job k f × (CleanWith job (flipped (standing job k) (proposalAt job k)) → ⊥))
     pub taken-only-then : (k : ℕ) → k < proposals → (answerAt k ≡ 0) ↔ (PassesAt job k × CleanWith job (flipped (standing job k) (proposalAt job k)))
     -- as many as were taken, so at most P
     pub as-many : length backwards ≡ o .taken

@@ -1,9 +1,9 @@
 -- Demand 3 is kept.
 use mathlib.Core.Path.{_≡_, refl, sym, ap, _∙_}
 use mathlib.Core.Logic.{_↔_}
-use mathlib.Core.Bool.{true}
+use mathlib.Core.Bool.{true, false}
 use mathlib.Core.List.{List}
-use Prim.Native.Nat.{ℕ, _≤_, _<_}
+use Prim.Native.Nat.{ℕ, _+_, _≤_, _<_}
 use native.Mathlib.Omega.{arith}
 use lib.ListN.{length, take, replicate}
 use lib.Seq.{take-at}
@@ -16,12 +16,13 @@ use Rattle.rules.specs.Laws.Job.{job-corners, job-rows, job-answers}
 use Rattle.rules.specs.Laws.Made.{track-small}
 use Rattle.rules.specs.Reading.Skin.{inside-reads}
 use Rattle.rules.specs.Reading.Ring.{clean-plain}
+use Rattle.rules.specs.Reading.Answers.{triangles-read}
 use Rattle.rules.specs.Reading.Codes.{RoomShort, accepted-header, accepted-length}
 use Rattle.manifold.specs.Steps.{flipped, taken-earlier, refused-earlier, undoing, undoing-front, undoing-length}
 use Rattle.manifold.specs.Jobs.{job-every-step, job-five-cases, job-backwards, cut-run, undone-run}
 use Rattle.track.specs.declared.Outcome.{Outcome}
 use Rattle.track.specs.Outcomes.{result}
-use Rattle.demands.specs.Demands.{proposalAt, CleanWith, PassesAt, marksBack, backwards, Demand3}
+use Rattle.demands.specs.Demands.{proposalAt, CleanWith, PassesAt, OnSkinAt, marksBack, backwards, Demand3}
 use Rattle.demands.specs.Grown.{job-accepted, job-closed, answers-are, marks-are, taken-is, each-answer, final-is}
 
 module _ (bytes : List ℕ) (before : Lent) {o : Outcome} {after : Lent} (ran : result o after ≡ run track bytes before) (zero-code : o .code ≡ 0) where
@@ -76,12 +77,27 @@ module _ (bytes : List ℕ) (before : Lent) {o : Outcome} {after : Lent} (ran : 
       λ (off, c). job-five-cases track bytes before refl zero k p off .0 .1 (clean-is (flipped (standing job k) p) .1 c),
     )
 
+    unclean : cleanWith job (flipped (standing job k) p) ≡ false → CleanWith job (flipped (standing job k) p) → ⊥
+    unclean n c = not-both (clean-is (flipped (standing job k) p) .1 c) n
+
+    not-clean : (CleanWith job (flipped (standing job k) p) → ⊥) → cleanWith job (flipped (standing job k) p) ≡ false
+    not-clean n = is-false (cleanWith job (flipped (standing job k) p)) (λ e. n (clean-is (flipped (standing job k) p) .0 e))
+
     refused-then : RefusedByCases given ↔ (PassesAt job k × (CleanWith job (flipped (standing job k) p) → ⊥))
     refused-then = (
       λ e.
           let off = refused-earlier (job .table) (standing job k) p e in
-          (off, λ c. not-both (clean-is (flipped (standing job k) p) .1 c) (job-five-cases track bytes before refl zero k p off .1 .0 e)),
-      λ (off, n). job-five-cases track bytes before refl zero k p off .1 .1 (is-false (cleanWith job (flipped (standing job k) p)) (λ e. n (clean-is (flipped (standing job k) p) .0 e))),
+          (off, unclean (job-five-cases track bytes before refl zero k p off .1 .0 e)),
+      λ (off, n). job-five-cases track bytes before refl zero k p off .1 .1 (not-clean n),
+    )
+
+    case-then : (f : ℕ) → f < 3 → (given ≡ 5 + f) ↔ (PassesAt job k × OnSkinAt job k f × (CleanWith job (flipped (standing job k) p) → ⊥))
+    case-then f few = (
+      λ e.
+          let off = refused-earlier (job .table) (standing job k) p (omega (arith, e), omega (arith, e, few)) in
+          let (here, n) = job-five-cases track bytes before refl zero k p off .2 f .0 e in
+          (off, triangles-read (job .table) (standing job k) (p .row) f .0 here, unclean n),
+      λ (off, here, n). job-five-cases track bytes before refl zero k p off .2 f .1 (triangles-read (job .table) (standing job k) (p .row) f .1 here, not-clean n),
     )
 
   -- ---- as jobs
@@ -113,6 +129,7 @@ module _ (bytes : List ℕ) (before : Lent) {o : Outcome} {after : Lent} (ran : 
     final-standing = marks-back ∙ final-is bytes before ran zero-code;
     final-clean = rw (marks-back ∙ final-is bytes before ran zero-code) (steps (headerOf bytes .proposals));
     refused-only-then = λ k l. rw (each-answer bytes before ran zero-code k l) (refused-then k l);
+    each-case-only-then = λ k f l few. rw (each-answer bytes before ran zero-code k l) (case-then k l f few);
     taken-only-then = λ k l. rw (each-answer bytes before ran zero-code k l) (taken-then k l);
     as-many = ap length backwards-is ∙ many;
     no-more = omega (arith, ap length backwards-is, many, taken-is bytes before ran zero-code, taken-few (answersOf job), job-answers track bytes);

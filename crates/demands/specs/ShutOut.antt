@@ -1,21 +1,23 @@
--- Versions that the demands shut out, each by document 01's own job A.
+-- Versions that the demands shut out: by document 01's own job A, and, where the case of a refusal matters, by removes on table D.
 use mathlib.Core.Path.{_≡_, refl, sym, ap, _∙_}
 use mathlib.Core.Logic.{_⊎_, ⊎-elim, _≢_}
 use mathlib.Core.List.{List, [], _∷_, map}
-use Prim.Native.Nat.{ℕ, _<_}
+use Prim.Native.Nat.{ℕ, _+_, _<_}
 use native.Mathlib.Omega.{arith}
 use native.Mathlib.Nat.{not-suc-le-zero}
-use lib.Dec.{lit<}
+use lib.Dec.{lit<, lit≤}
 use lib.ListN.{length, getD, take}
 use Rattle.rules.specs.Words.{word}
-use Rattle.rules.specs.Proposals.{taken}
-use Rattle.rules.specs.Job.{track, headerOf, jobOf, finalOf, skinWith, Lent, Result, run}
+use Rattle.rules.specs.Cases.{trianglesOnSkin}
+use Rattle.rules.specs.Proposals.{insideIn, RefusedByCases, taken}
+use Rattle.rules.specs.Job.{track, headerOf, jobOf, standing, finalOf, skinWith, Lent, Result, run}
 use Rattle.rules.specs.Reading.Codes.{code-exactly}
 use Rattle.rules.specs.Worked.{ran, known, lend}
 use Rattle.rules.specs.Worked.Document.{jobA, documentJobs, document-jobs}
+use Rattle.rules.specs.Worked.Ours.{removesD, answerJobs, answer-jobs}
 use Rattle.track.specs.declared.Outcome.{Outcome}
 use Rattle.track.specs.Outcomes.{result}
-use Rattle.demands.specs.Demands.{Demands}
+use Rattle.demands.specs.Demands.{proposalAt, Demands}
 use Rattle.demands.specs.Kept.{say-all}
 
 -- what a version gives and leaves for each job and whatever is lent
@@ -39,6 +41,26 @@ is-a d = ap (first d) document-jobs
 seven : headerOf jobA .proposals ≡ 7
 unfolding headerOf word
 seven = refl
+
+-- the removes on table D, with buffers of the same kind
+abbrev jobD : List ℕ
+jobD = removesD .bytes
+
+abbrev lentD : Lent
+lentD = removesD .lent
+
+is-d : (d : Result) → run track jobD lentD ≡ first d (map known answerJobs)
+unfolding ran first
+is-d d = ap (first d) answer-jobs
+
+ten : headerOf jobD .proposals ≡ 10
+unfolding headerOf word
+ten = refl
+
+-- before its second proposal no triangle of the row that its third names is on the skin
+none-before : trianglesOnSkin (jobOf track jobD .table) (insideIn (standing (jobOf track jobD) 1)) (proposalAt (jobOf track jobD) 2 .row) ≡ 0
+unfolding ran
+none-before = refl
 
 -- no bytes at all: code 1
 empty-job : (before : Lent) → run track [] before .code ≡ 1
@@ -66,9 +88,9 @@ module _ (v : Version) where
   pub not-all-refused : ((job : List ℕ) (before : Lent) → v .gives job before .code ≢ 0) → ⊥
   not-all-refused never = never jobA lentA accepts-a
 
-  -- one that answers 5 to every proposal: A's first is taken
-  pub not-all-5 : ((job : List ℕ) (before : Lent) → v .gives job before .code ≡ 0 → (k : ℕ) → k < headerOf job .proposals → getD (v .leaves job before .answers) k 0 ≡ 5) → ⊥
-  not-all-5 five = let e = sym (answers-a 0) ∙ five jobA lentA accepts-a 0 (rw seven (lit< tt)) in omega (arith, e)
+  -- one that answers 5, 6 or 7 to every proposal: A's first is taken
+  pub not-all-by-cases : ((job : List ℕ) (before : Lent) → v .gives job before .code ≡ 0 → (k : ℕ) → k < headerOf job .proposals → RefusedByCases (getD (v .leaves job before .answers) k 0)) → ⊥
+  not-all-by-cases refuses = omega (arith, answers-a 0, refuses jobA lentA accepts-a 0 (rw seven (lit< tt)) .0)
 
   -- one giving the same output for all jobs: A is run, and no bytes at all are refused
   pub not-the-same : ((job other : List ℕ) (before : Lent) → v .gives job before ≡ v .gives other before) → ⊥
@@ -96,3 +118,36 @@ module _ (v : Version) where
   not-invented job before zero invents =
       let d = v .keeps job before .two zero in
       ⊎-elim (λ ne. ne (d .taken-counted)) (λ ne. ne (d .triangles-counted)) invents
+
+  -- ---- the case of a refusal
+
+  abbrev d : Result
+  d = result (v .gives jobD lentD) (v .leaves jobD lentD)
+
+  on-d : d ≡ first d (map known answerJobs)
+  on-d = is-run jobD lentD ∙ is-d d
+
+  accepts-d : v .gives jobD lentD .code ≡ 0
+  unfolding first
+  accepts-d = ap (λ (r : Result). r .code) on-d
+
+  answers-d : (k : ℕ) → getD (v .leaves jobD lentD .answers) k 0 ≡ getD (removesD .result .left .answers) k 0
+  unfolding first
+  answers-d k = ap (λ (r : Result). getD (r .left .answers) k 0) on-d
+
+  -- one that gives one answer for all cases: D's first gets 5, and its third 6
+  pub not-one-answer : (a : ℕ) → ((job : List ℕ) (before : Lent) → v .gives job before .code ≡ 0 → (k : ℕ) → k < headerOf job .proposals
+      → RefusedByCases (getD (v .leaves job before .answers) k 0) → getD (v .leaves job before .answers) k 0 ≡ a) → ⊥
+  not-one-answer a one =
+      let given : (k : ℕ) → k < 10 → RefusedByCases (getD (removesD .result .left .answers) k 0) → getD (removesD .result .left .answers) k 0 ≡ a =
+      λ k l. rw (← answers-d k) (one jobD lentD accepts-d k (rw ten l)) in
+      let e = given 0 (lit< tt) (lit≤ tt, lit≤ tt) ∙ sym (given 2 (lit< tt) (lit≤ tt, lit≤ tt)) in
+      omega (arith, e)
+
+  -- one that gives the case of the marks before the last taken proposal: D's second is taken, its third gets 6, and f was 0 before the second
+  pub not-the-case-before : ((job : List ℕ) (before : Lent) → v .gives job before .code ≡ 0 → (k : ℕ) → k + 1 < headerOf job .proposals
+      → getD (v .leaves job before .answers) k 0 ≡ 0 → RefusedByCases (getD (v .leaves job before .answers) (k + 1) 0)
+      → getD (v .leaves job before .answers) (k + 1) 0 ≡ 5 + trianglesOnSkin (jobOf track job .table) (insideIn (standing (jobOf track job) k)) (proposalAt (jobOf track job) (k + 1) .row)) → ⊥
+  not-the-case-before stale =
+      let e = sym (answers-d 2) ∙ stale jobD lentD accepts-d 1 (rw ten (lit< tt)) (answers-d 1) (rw (answers-d 2) (lit≤ tt, lit≤ tt)) in
+      omega (arith, e, none-before)

@@ -9,18 +9,16 @@ use native.Mathlib.Omega.{arith}
 use lib.Dec.{eqb, ltb}
 use lib.ListN.{length, set}
 use borrow.Author.Tests.{eqb-true, lt-ltb, le-ltb, ltb-true}
-use Rattle.rules.specs.Below.{found, bit, gather, tabulate}
-use Rattle.rules.specs.Table.{Table, holds, outer}
-use Rattle.rules.specs.First.{Test, Verdict, given, firstMatch}
-use Rattle.rules.specs.Cases.{otherSide, passes}
-use Rattle.rules.specs.Proposals.{Proposal, insideIn, adds, answerTests, answer, marksAfter, answersTo, finalMarks, taken}
+use Rattle.rules.specs.Below.{bit, gather, tabulate}
+use Rattle.rules.specs.Table.{Table, holds}
+use Rattle.rules.specs.Cases.{otherSide, caseAnswer}
+use Rattle.rules.specs.Proposals.{Proposal, insideIn, adds, answer, marksAfter, answersTo, finalMarks, taken}
 use Rattle.rules.specs.Job.{proposalIn, written}
 use Rattle.rules.specs.Words.{word}
 use Rattle.rules.specs.Laws.Truth.{true-or-false}
-use Rattle.rules.specs.Laws.First.{match-here, match-later, match-end}
 use Rattle.rules.specs.Laws.Lists.{tabulate-more, tabulate-length}
 use Rattle.rules.specs.Laws.Count.{bit-small}
-use Rattle.rules.specs.Laws.Proposals.{final-length, final-more, answers-length, answers-more, taken-more, taken-few}
+use Rattle.rules.specs.Laws.Proposals.{answer-is, final-length, final-more, answers-length, answers-more, taken-more, taken-few}
 use Rattle.rules.specs.Laws.Written.{written-none, written-length, written-snoc}
 
 abbrev pub proposal : ℕ → ℕ → Proposal
@@ -32,29 +30,11 @@ proposalsIn bytes = tabulate (length bytes / 8) (proposalIn bytes)
 
 -- ---- the tests of one proposal, first match decides
 
-given-code : (code : ℕ) (b : Bool) (tests : List Test) → firstMatch code ((λ _. given b) ∷ tests) .code ≡ cond b code (firstMatch (suc code) tests .code)
-unfolding given found
-given-code code true tests = ap (λ (v : Verdict). v .code) (match-here code (λ _. given true) tests 0 refl)
-given-code code false tests = ap (λ (v : Verdict). v .code) (match-later code (λ _. given false) tests refl)
-
-five-tests : (a b c d e : Bool) → firstMatch 1 ((λ _. given a) ∷ (λ _. given b) ∷ (λ _. given c) ∷ (λ _. given d) ∷ (λ _. given e) ∷ []) .code
-    ≡ cond a 1 (cond b 2 (cond c 3 (cond d 4 (cond e 5 0))))
-five-tests a b c d e =
-    given-code 1 a _ ∙ ap (λ (n : ℕ). cond a 1 n) (given-code 2 b _ ∙ ap (λ (n : ℕ). cond b 2 n) (given-code 3 c _ ∙ ap (λ (n : ℕ). cond c 3 n)
-    (given-code 4 d _ ∙ ap (λ (n : ℕ). cond d 4 n) (given-code 5 e _ ∙ ap (λ (v : Verdict). cond e 5 (v .code)) (match-end 6)))))
-
-module _ (t : Table) (marks : List ℕ) (p : Proposal) where
-  answer-is : answer t marks p
-      ≡ cond (not (ltb (p .row) (t .rows))) 1 (cond (not (eqb (p .kind) 1 || eqb (p .kind) 2)) 2 (cond (holds t (p .row) 0) 3
-      (cond (otherSide (eqb (p .kind) 1) (insideIn marks) (p .row)) 4 (cond (not (passes t (insideIn marks) (eqb (p .kind) 1) (p .row))) 5 0))))
-  unfolding answer answerTests outer adds
-  answer-is = five-tests _ _ _ _ _
-
-  -- a proposal that is taken names a row
-  taken-row : answer t marks p ≡ 0 → p .row < t .rows
-  taken-row e =
-      ⊎-elim (ltb-true (p .row) (t .rows)) (λ (off : ltb (p .row) (t .rows) ≡ false). let one : answer t marks p ≡ 1 = answer-is ∙ rw off in absurd (omega arith))
-      (true-or-false (ltb (p .row) (t .rows)))
+-- a proposal that is taken names a row
+taken-row : (t : Table) (marks : List ℕ) (p : Proposal) → answer t marks p ≡ 0 → p .row < t .rows
+taken-row t marks p e =
+    ⊎-elim (ltb-true (p .row) (t .rows)) (λ (off : ltb (p .row) (t .rows) ≡ false). let one : answer t marks p ≡ 1 = answer-is t marks p ∙ rw off in absurd (omega arith))
+    (true-or-false (ltb (p .row) (t .rows)))
 
 -- each answer where those before it do not apply
 module _ (t : Table) (marks : List ℕ) (row kind : ℕ) where
@@ -71,17 +51,12 @@ module _ (t : Table) (marks : List ℕ) (row kind : ℕ) where
 
       module _ (finite : infinite ≡ false) {there : Bool} (et : there ≡ otherSide (eqb kind 1) (insideIn marks) row) where
         pub there-already : there ≡ true → 4 ≡ answer t marks (proposal row kind)
+        unfolding adds
         there-already e = sym (answer-is t marks (proposal row kind) ∙ rw (lt-ltb row (t .rows) l, known, sym ei ∙ finite, sym et ∙ e))
 
-        module _ (here : there ≡ false) {fits : Bool} (ef : fits ≡ passes t (insideIn marks) (eqb kind 1) row) where
-          answer-by-cases : answer t marks (proposal row kind) ≡ cond (not fits) 5 0
-          answer-by-cases = answer-is t marks (proposal row kind) ∙ rw (lt-ltb row (t .rows) l, known, sym ei ∙ finite, sym et ∙ here, ← ef)
-
-          pub cases-refuse : not fits ≡ true → 5 ≡ answer t marks (proposal row kind)
-          cases-refuse e = sym (answer-by-cases ∙ rw e)
-
-          pub none-applies : not fits ≡ false → 0 ≡ answer t marks (proposal row kind)
-          none-applies e = sym (answer-by-cases ∙ rw e)
+        pub by-cases : there ≡ false → {given : ℕ} → given ≡ caseAnswer t (insideIn marks) (eqb kind 1) row → given ≡ answer t marks (proposal row kind)
+        unfolding adds
+        by-cases here eg = eg ∙ sym (answer-is t marks (proposal row kind) ∙ rw (lt-ltb row (t .rows) l, known, sym ei ∙ finite, sym et ∙ here))
 
 -- ---- one proposal of a section
 

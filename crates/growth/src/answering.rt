@@ -1,5 +1,6 @@
 // The answer to one proposal, and the mark that it names.
-use crate::cases::passes;
+use crate::cases::Local;
+use crate::cases::local_test;
 use crate::free::on_other_side;
 use table::holds;
 use table::row_count;
@@ -15,9 +16,21 @@ ghost use Rattle.rules.specs.Proposals.{answer, marksAfter};
 ghost use Rattle.rules.specs.Job.{proposalIn};
 ghost use Rattle.table.specs.Rows.{tableIn, rowsIn};
 ghost use Rattle.table.specs.Ground.{ClosedGround};
+ghost use Rattle.growth.specs.Cases.{answerOf};
 ghost use Rattle.growth.specs.Answers.{proposal};
 
-// The first of the answers 1 to 5 that applies, or 0: taken.
+fn answer_of(local: Local) -> u8
+    ensures { λ r. ⌜ r ≡ answerOf local ⌝ }
+{
+    match local {
+        Local::Passes => 0,
+        Local::Vertices => 5,
+        Local::Opposite => 6,
+        Local::Edge => 7,
+    }
+}
+
+// The first of the answers 1 to 7 that applies, or 0: taken.
 fn answer(rows: &[u8], neighbours: &[u32], marks: &[u8], row: usize, kind: usize) -> u8
     requires { ⌜ ClosedGround (now rows) (now neighbours) × (rowsIn (now rows) ≤ length (now marks)) ⌝ }
     ensures { λ r. ⌜ r ≡ answer (tableIn (now (rows .entry))) (now (marks .entry)) (proposal row kind) ⌝ }
@@ -34,10 +47,7 @@ fn answer(rows: &[u8], neighbours: &[u32], marks: &[u8], row: usize, kind: usize
     if on_other_side(marks, kind == 1, row) {
         return 4;
     }
-    if !passes(rows, neighbours, marks, kind == 1, row) {
-        return 5;
-    }
-    0
+    answer_of(local_test(rows, neighbours, marks, kind == 1, row))
 }
 
 // The mark of an inside row, or of an outside row.

@@ -11,15 +11,28 @@ use table::faces::corner_table;
 use table::id_at;
 use values::choose;
 ghost use mathlib.Core.Path.{_≡_};
+ghost use mathlib.Core.Bool.{cond};
 ghost use Prim.Native.Nat.{_≤_, _<_};
 ghost use lib.ListN.{length};
 ghost use Rattle.rules.specs.Below.{count, pick};
-ghost use Rattle.rules.specs.Cases.{otherSide, free, passes};
+ghost use Rattle.rules.specs.Cases.{otherSide, free, caseAnswer};
 ghost use Rattle.rules.specs.Proposals.{insideIn};
 ghost use Rattle.table.specs.Rows.{tableIn, rowsIn};
 ghost use Rattle.table.specs.Ground.{ClosedGround};
 ghost use Rattle.skin.specs.Between.{between};
 ghost use Rattle.growth.specs.Around.{Surrounded, Counted};
+ghost use Rattle.growth.specs.Cases.{answerOf};
+
+// What the local test says of a row: it passes, or the case that refuses it, by what a row of the other side holds.
+pub(crate) enum Local {
+    Passes,
+    // f = 0: one of the vertices.
+    Vertices,
+    // f = 1: the vertex opposite the skin triangle.
+    Opposite,
+    // f = 2: the edge that is in neither skin triangle.
+    Edge,
+}
 
 // How many of a row's triangles are on the skin, and the left-out corner of the last of them.
 struct LeftOut {
@@ -58,22 +71,32 @@ fn edge_free(rows: &[u8], neighbours: &[u32], marks: &[u8], adding: bool, row: u
     about_free(rows, neighbours, marks, adding, a, b, row, last)
 }
 
-pub(crate) fn passes(
+// The row passes if what its case asks for is free.
+fn unless_free(free: bool, case: Local) -> Local
+    ensures { λ r. ⌜ answerOf r ≡ cond free 0 (answerOf case) ⌝ }
+{
+    if free { Local::Passes } else { case }
+}
+
+pub(crate) fn local_test(
     rows: &[u8],
     neighbours: &[u32],
     marks: &[u8],
     adding: bool,
     row: usize,
-) -> bool
+) -> Local
     requires { ⌜ ClosedGround (now rows) (now neighbours) × (rowsIn (now rows) ≤ length (now marks)) × (row < rowsIn (now rows)) ⌝ }
-    ensures { λ r. ⌜ r ≡ passes (tableIn (now (rows .entry))) (insideIn (now (marks .entry))) adding row ⌝ }
+    ensures { λ r. ⌜ answerOf r ≡ caseAnswer (tableIn (now (rows .entry))) (insideIn (now (marks .entry))) adding row ⌝ }
 {
     let skin = left_out(neighbours, marks, row);
     let f = skin.count;
     match f {
-        0 => vertices_free(rows, marks, adding, row),
-        1 => vertex_free(rows, marks, adding, row, skin.last),
-        2 => edge_free(rows, neighbours, marks, adding, row),
-        _ => true,
+        0 => unless_free(vertices_free(rows, marks, adding, row), Local::Vertices),
+        1 => unless_free(
+            vertex_free(rows, marks, adding, row, skin.last),
+            Local::Opposite,
+        ),
+        2 => unless_free(edge_free(rows, neighbours, marks, adding, row), Local::Edge),
+        _ => Local::Passes,
     }
 }

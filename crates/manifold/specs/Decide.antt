@@ -2,7 +2,7 @@
 use mathlib.Core.Path.{_≡_, refl, sym, ap, _∙_, subst}
 use mathlib.Core.Logic.{_⊎_, inl, inr, ⊎-elim, _↔_, _≢_}
 use mathlib.Core.Bool.{Bool, true, false, not}
-use Prim.Native.Nat.{ℕ, _≤_, _<_}
+use Prim.Native.Nat.{ℕ, zero, suc, _≤_, _<_}
 use native.Mathlib.Omega.{arith}
 use Rattle.rules.specs.Below.{count}
 use Rattle.rules.specs.Table.{Table}
@@ -111,13 +111,14 @@ module _ (t : Table) (four : t .corners ≡ 4) {idCount : ℕ} (closed : Closed 
   -- ---- by the definition of `rules`
 
   refused : Rings t inside → Rings t after → Refuses t Left Other r → ⊥
-  refused rings after-rings (inl (none, (c, l, (s, ls, o, h)))) =
+  refused rings after-rings (zero, (none, (c, l, (s, ls, o, h)))) =
       case-0 rings (λ c l. none c (below-corners l)) .0 after-rings c (below-four t four l) s ls o h
-  refused rings after-rings (inr (inl (x, (s, ls, o, h)))) =
+  refused rings after-rings (suc zero, (x, (s, ls, o, h))) =
       case-1 rings (below-four t four (x .below)) (x .is) (λ c l. x .only c (below-corners l)) .0 after-rings s ls o h
-  refused rings after-rings (inr (inr (x, held))) =
+  refused rings after-rings (suc (suc zero), (x, held)) =
       let (s, ls, o, h) = neither-holds t Left Other r x .0 held in
       case-2 rings (below-four t four (x .one-below)) (below-four t four (x .two-below)) (x .differ) (x .one-is) (x .two-is) (λ c l. x .only c (below-corners l)) .0 after-rings s ls o h
+  refused rings after-rings (suc (suc (suc f)), x) = x
 
   f : ℕ
   f = count (t .corners) (onSkin t inside r)
@@ -132,14 +133,14 @@ module _ (t : Table) (four : t .corners ≡ 4) {idCount : ℕ} (closed : Closed 
       by-f : (f ≡ 0) ⊎ (f ≢ 0) → (f ≡ 1) ⊎ (f ≢ 1) → (f ≡ 2) ⊎ (f ≢ 2) → Rings t after
       by-f (inl z) _ _ =
           let none : (c : ℕ) → c < t .corners → Left c → ⊥ = λ c l e. not-both e (count-zero (t .corners) (onSkin t inside r) z c l) in
-          case-0 rings (λ c l. none c (below-corners l)) .1 (λ c l s ls o h. free (inl (none, (c, below-corners l, (s, ls, o, h)))))
+          case-0 rings (λ c l. none c (below-corners l)) .1 (λ c l s ls o h. free (0, (none, (c, below-corners l, (s, ls, o, h)))))
       by-f (inr _) (inl one) _ =
           let x = count-one (t .corners) (onSkin t inside r) one in
-          case-1 rings (below-four t four (x .below)) (x .is) (λ c l. x .only c (below-corners l)) .1 (λ s ls o h. free (inr (inl (x, (s, ls, o, h)))))
+          case-1 rings (below-four t four (x .below)) (x .is) (λ c l. x .only c (below-corners l)) .1 (λ s ls o h. free (1, (x, (s, ls, o, h))))
       by-f (inr _) (inr _) (inl two) =
           let x = count-two (t .corners) (onSkin t inside r) two in
           case-2 rings (below-four t four (x .one-below)) (below-four t four (x .two-below)) (x .differ) (x .one-is) (x .two-is) (λ c l. x .only c (below-corners l)) .1
-          (λ s ls o h. free (inr (inr (x, neither-holds t Left Other r x .1 (s, ls, o, h)))))
+          (λ s ls o h. free (2, (x, neither-holds t Left Other r x .1 (s, ls, o, h))))
       by-f (inr n₀) (inr n₁) (inr n₂) =
           passes-more t four closed flip lr (λ a b la lb na nb.
           ⊎-elim (λ e. e) (λ ne. absurd (too-many n₀ n₁ n₂ (two-pass (t .corners) (λ c. not (onSkin t inside r c)) a b (below-corners la) (below-corners lb)

@@ -3,11 +3,12 @@ use mathlib.Core.Path.{_≡_, sym, _∙_}
 use mathlib.Core.Logic.{_↔_}
 use mathlib.Core.Bool.{true, false}
 use mathlib.Core.List.{List}
-use Prim.Native.Nat.{ℕ, _^_, _≤_, _<_}
+use Prim.Native.Nat.{ℕ, _+_, _^_, _≤_, _<_}
 use native.Mathlib.Nat.{zero-lt-suc}
 use native.Mathlib.Omega.{arith}
 use lib.ListN.{length, take}
 use Rattle.rules.specs.First.{firstMatch}
+use Rattle.rules.specs.Cases.{trianglesOnSkin}
 use Rattle.rules.specs.Proposals.{Proposal, insideIn, answer, RefusedByCases}
 use Rattle.rules.specs.Job.{Form, headerOf, wholeLength, Job, jobOf, answersOf, standing, finalOf, cleanWith, Lent, tableTests, sectionTests, accepted, run}
 use Rattle.rules.specs.Made.{withProposals, remadeJob, cutJob, cutTo, remade}
@@ -26,11 +27,14 @@ use Rattle.manifold.specs.Steps.{PassesEarlier, flipped, Marks, AllTaken
 abbrev pub EveryStep : Job → Type 0
 EveryStep job = (k : ℕ) → cleanWith job (standing job k) ≡ true
 
--- A proposal that passes the earlier tests on the marks then standing is taken exactly if that leaves the skin clean, and refused by the five cases exactly if not.
+-- A proposal that passes the earlier tests on the marks then standing is taken exactly if that leaves the skin clean, and refused by the five cases exactly if not:
+-- with 5 + f, for f triangles of its row on the skin.
 abbrev pub CasesDecide : Job → Type 0
 CasesDecide job = (k : ℕ) (p : Proposal) → PassesEarlier (job .table) (standing job k) p
     → ((answer (job .table) (standing job k) p ≡ 0) ↔ (cleanWith job (flipped (standing job k) p) ≡ true))
     × (RefusedByCases (answer (job .table) (standing job k) p) ↔ (cleanWith job (flipped (standing job k) p) ≡ false))
+    × ((f : ℕ) → (answer (job .table) (standing job k) p ≡ 5 + f)
+    ↔ ((trianglesOnSkin (job .table) (insideIn (standing job k)) (p .row) ≡ f) × (cleanWith job (flipped (standing job k) p) ≡ false)))
 
 -- The taken proposals, run backwards with add and remove exchanged, are all taken and bring back the start.
 abbrev pub Backwards : Job → Type 0

@@ -6,6 +6,7 @@ use mathlib.Core.Path.{_≡_, refl}
 use mathlib.Core.Bool.{true}
 use mathlib.Core.List.{List, [], _∷_, _++_}
 use Prim.Native.Nat.{ℕ}
+use lib.Dec.{lit≤}
 use Rattle.rules.specs.Below.{count}
 use Rattle.rules.specs.Table.{Table, tableOf}
 use Rattle.rules.specs.Skin.{onSkin, clean, skin}
@@ -36,4 +37,4 @@ pub record Sharp : Type 0 where
 
 pub sharp : Sharp
 unfolding ran copies second-inside clean
-sharp = record { vertex-rule-alone = refl; skin-empty = refl; skin-clean = refl; f-is-0 = refl; refused = refl; clean-with-it = refl }
+sharp = record { vertex-rule-alone = refl; skin-empty = refl; skin-clean = refl; f-is-0 = refl; refused = (lit≤ tt, lit≤ tt); clean-with-it = refl }

@@ -3,25 +3,26 @@ use mathlib.Core.Path.{_≡_, refl, sym, ap, ap₂, _∙_, subst}
 use mathlib.Core.Logic.{_⊎_, inl, inr, ⊎-elim, _↔_, _≢_}
 use mathlib.Core.Bool.{Bool, true, false, not, cond, Bool·not-not}
 use mathlib.Core.List.{List, [], _∷_, _++_, map, reverse, reverse-cons, List·Memᴰ·not-nil, List·Memᴰ·cases-cons}
-use Prim.Native.Nat.{ℕ, zero, suc, _≤_, _<_}
+use Prim.Native.Nat.{ℕ, zero, suc, _+_, _-_, _≤_, _<_}
 use native.Mathlib.Nat.{lt-of-not-le, not-le-of-lt}
 use native.Mathlib.Omega.{arith}
 use lib.Dec.{eqb, lit<}
 use lib.ListN.{length, getD, set, take, drop, replicate, length-append, length-map, length-reverse, length-set, replicate-append-replicate}
 use lib.Seq.{getD-set-same, getD-set-other, set-set, set-getD}
-use borrow.Author.Tests.{eq-eqb, ne-eqb}
+use borrow.Author.Tests.{eq-eqb, ne-eqb, lt-ltb}
 use Rattle.rules.specs.Below.{bit, only}
-use Rattle.rules.specs.Table.{Table}
+use Rattle.rules.specs.Table.{Table, holds}
 use Rattle.rules.specs.Skin.{clean}
-use Rattle.rules.specs.Cases.{passes}
+use Rattle.rules.specs.Cases.{otherSide, trianglesOnSkin, passes, caseAnswer}
 use Rattle.rules.specs.Proposals.{Proposal, insideIn, adds, answer, RefusedByCases, marksAfter, answersTo, finalMarks, taken}
-use Rattle.rules.specs.Laws.Truth.{not-both, is-true, same-or-not}
+use Rattle.rules.specs.Laws.Truth.{is-false, same-or-not, or-reads, eqb-reads}
 use Rattle.rules.specs.Laws.Lists.{Among, only-length}
-use Rattle.rules.specs.Laws.Proposals.{answers-append, final-append}
+use Rattle.rules.specs.Laws.Cases.{passed-exactly, refused-exactly, refused-at-exactly}
+use Rattle.rules.specs.Laws.Proposals.{answer-is, answers-append, final-append}
 use Rattle.rules.specs.Laws.First.{conditionAt}
-use Rattle.rules.specs.Reading.Rows.{Holds}
+use Rattle.rules.specs.Reading.Rows.{Holds, holds-reads}
 use Rattle.rules.specs.Reading.Closed.{Closed}
-use Rattle.rules.specs.Reading.Answers.{CasesRefuse, answerConditions, other-reads, cases-read, answer-exactly, taken-exactly}
+use Rattle.rules.specs.Reading.Answers.{answerConditions, other-reads, answer-exactly, taken-exactly}
 use Rattle.manifold.specs.Facet.{FlipAt, not-differs, differs-not}
 use Rattle.manifold.specs.Decide.{cases-decide}
 
@@ -78,7 +79,12 @@ passes-earlier t marks p = (forth, back)
     back x (suc (suc (suc zero))) l place (o, _) = not-differs (adds p) (adds p) refl (sym (x .this-side) ∙ other-reads t marks p (x .kind-known) (p .row) .1 o)
     back x (suc (suc (suc (suc i)))) l place c = absurd (omega arith)
 
--- ---- answers by the fifth test
+-- ---- answers by the five cases
+
+-- a row that is not there already
+not-there : (adding here : Bool) → here ≡ not adding → cond adding here (not here) ≡ false
+not-there true here e = e
+not-there false here e = ap not e
 
 module _ (t : Table) (marks : List ℕ) (p : Proposal) where
   -- a taken proposal passes all tests, and one that the five cases refuse passes those before
@@ -86,31 +92,31 @@ module _ (t : Table) (marks : List ℕ) (p : Proposal) where
   taken-earlier a i _ = taken-exactly t marks p .0 a i
 
   pub refused-earlier : RefusedByCases (answer t marks p) → PassesEarlier t marks p
-  refused-earlier a = let (_, x) = answer-exactly t marks p 4 (lit< tt) .0 a in x .none-before
+  refused-earlier (low, high) i few =
+      let (_, x) = answer-exactly t marks p (answer t marks p - 1) (omega (arith, low, high)) .0 (omega (arith, low)) in
+      x .none-before i (omega (arith, few, low))
 
   module _ (off : PassesEarlier t marks p) where
-    reads : (passes t (insideIn marks) (adds p) (p .row) ≡ false) ↔ CasesRefuse t marks p
-    reads = cases-read t marks p (passes-earlier t marks p .0 off .kind-known)
+    by-cases : answer t marks p ≡ caseAnswer t (insideIn marks) (adds p) (p .row)
+    unfolding otherSide
+    by-cases =
+        let x = passes-earlier t marks p .0 off in
+        answer-is t marks p
+        ∙ rw (
+          lt-ltb (p .row) (t .rows) (x .row-below),
+          or-reads (eqb-reads (p .kind) 1) (eqb-reads (p .kind) 2) .1 (x .kind-known),
+          is-false (holds t (p .row) 0) (λ e. x .finite (holds-reads t (p .row) 0 .0 e)),
+          not-there (adds p) (insideIn marks (p .row)) (x .this-side),
+        )
 
     taken-passes : (answer t marks p ≡ 0) ↔ (passes t (insideIn marks) (adds p) (p .row) ≡ true)
-    taken-passes = (
-      λ a. is-true (passes t (insideIn marks) (adds p) (p .row)) (λ n. taken-exactly t marks p .0 a 4 0 (reads .0 n, refl)),
-      λ q. taken-exactly t marks p .1 (none q),
-    )
-      where
-        none : passes t (insideIn marks) (adds p) (p .row) ≡ true → (i place : ℕ) → conditionAt (answerConditions t marks p) i place → ⊥
-        none q zero = off 0 (lit< tt)
-        none q (suc zero) = off 1 (lit< tt)
-        none q (suc (suc zero)) = off 2 (lit< tt)
-        none q (suc (suc (suc zero))) = off 3 (lit< tt)
-        none q (suc (suc (suc (suc zero)))) = λ place (x, _). not-both q (reads .1 x)
-        none q (suc (suc (suc (suc (suc i))))) = λ place c. c
+    taken-passes = rw by-cases (passed-exactly t (insideIn marks) (adds p) (p .row))
 
     refused-passes : RefusedByCases (answer t marks p) ↔ (passes t (insideIn marks) (adds p) (p .row) ≡ false)
-    refused-passes = (
-      λ a. let (_, x) = answer-exactly t marks p 4 (lit< tt) .0 a in reads .1 (x .holds .0),
-      λ n. answer-exactly t marks p 4 (lit< tt) .1 (0, record { holds = (reads .0 n, refl); none-before = off }),
-    )
+    refused-passes = rw by-cases (refused-exactly t (insideIn marks) (adds p) (p .row))
+
+    refused-at-passes : (f : ℕ) → (answer t marks p ≡ 5 + f) ↔ ((trianglesOnSkin t (insideIn marks) (p .row) ≡ f) × (passes t (insideIn marks) (adds p) (p .row) ≡ false))
+    refused-at-passes f = rw by-cases (refused-at-exactly t (insideIn marks) (adds p) (p .row) f)
 
   -- Only answer 0 changes a mark, the named one.
   pub after-taken : answer t marks p ≡ 0 → marksAfter t marks p ≡ flipped marks p
@@ -267,17 +273,17 @@ module _ (t : Table) (four : t .corners ≡ 4) {idCount : ℕ} (closed : Closed 
       let x = passes-earlier t marks p .0 off in
       cases-decide t four closed (flip-at marks p (subst (λ (n : ℕ). p .row < n) (sym (m .one-each)) (x .row-below)) (x .this-side)) (x .row-below) (adds p) (x .this-side) e
 
-  -- Of a proposal that passes tests 1 to 4 the answer is 0 exactly if the skin with the named mark flipped is clean, and that of the five cases exactly if it is not.
+  -- Of a proposal that passes tests 1 to 4 the answer is 0 exactly if the skin with the named mark flipped is clean, and that of the five cases exactly if it is not:
+  -- 5 + f, for f triangles of its row on the skin.
   pub five-cases : (marks : List ℕ) → Marks t marks → Clean marks → (p : Proposal) → PassesEarlier t marks p
       → ((answer t marks p ≡ 0) ↔ (clean t (insideIn (flipped marks p)) idCount ≡ true))
       × (RefusedByCases (answer t marks p) ↔ (clean t (insideIn (flipped marks p)) idCount ≡ false))
+      × ((f : ℕ) → (answer t marks p ≡ 5 + f) ↔ ((trianglesOnSkin t (insideIn marks) (p .row) ≡ f) × (clean t (insideIn (flipped marks p)) idCount ≡ false)))
   five-cases marks m e p off =
       let same = decides marks m e p off in
-      let (tf, tb) = taken-passes t marks p off in
-      let (rf, rb) = refused-passes t marks p off in
-      ((λ a. sym same ∙ tf a, λ c. tb (same ∙ c)), (λ a. sym same ∙ rf a, λ c. rb (same ∙ c)))
+      (rw (← same) (taken-passes t marks p off), rw (← same) (refused-passes t marks p off), λ f. rw (← same) (refused-at-passes t marks p off f))
 
-  -- nothing clean is refused by test 5
+  -- nothing clean is refused by the five cases
   pub nothing-clean-refused : (marks : List ℕ) → Marks t marks → Clean marks → (p : Proposal) → PassesEarlier t marks p → Clean (flipped marks p) → answer t marks p ≡ 0
   nothing-clean-refused marks m e p off c = five-cases marks m e p off .0 .1 c
 

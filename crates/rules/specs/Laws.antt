@@ -8,6 +8,7 @@
 --     Joined     chains, and connectedness by them
 --     Shape      the fixed tables of corners and edges
 --     First      first match decides
+--     Cases      the five cases, and the answer of each
 --     Proposals  answers and marks, one proposal more
 --     Words      numbers in bytes
 --     Written    a list at the front of a buffer
@@ -22,6 +23,7 @@ pub mod Places
 pub mod Joined
 pub mod Shape
 pub mod First
+pub mod Cases
 pub mod Proposals
 pub mod Words
 pub mod Written

@@ -1,6 +1,5 @@
 -- Answers to proposals, and the marks after them.
-use mathlib.Core.Path.{_≡_}
-use Prim.Native.Nat.{ℕ, _+_}
+use Prim.Native.Nat.{ℕ, _+_, _≤_}
 use mathlib.Core.Bool.{Bool, not, _||_, cond}
 use mathlib.Core.List.{List, [], _∷_}
 use lib.Dec.{eqb, ltb}
@@ -8,7 +7,7 @@ use lib.ListN.{getD, set}
 use Rattle.rules.specs.Below.{bit}
 use Rattle.rules.specs.Table.{Table, outer}
 use Rattle.rules.specs.First.{Test, given, firstMatch}
-use Rattle.rules.specs.Cases.{otherSide, passes}
+use Rattle.rules.specs.Cases.{otherSide, caseTests}
 
 -- a row number and a kind, 1 add or 2 remove
 pub record Proposal : Type 0 where
@@ -32,16 +31,15 @@ answerTests t marks p =
     ∷ (λ _. given (outer t (p .row)))
     -- 4: add of an inside row, remove of an outside row: it is on the other side already
     ∷ (λ _. given (otherSide (adds p) (insideIn marks) (p .row)))
-    -- 5: the five cases refuse
-    ∷ (λ _. given (not (passes t (insideIn marks) (adds p) (p .row))))
-    ∷ []
+    -- 5, 6, 7: the five cases refuse, at f = 0, 1, 2
+    ∷ caseTests t (insideIn marks) (adds p) (p .row)
 
 unfoldable pub answer : Table → List ℕ → Proposal → ℕ
 answer t marks p = firstMatch 1 (answerTests t marks p) .code
 
--- of an answer: the five cases refuse, though nothing before them does
+-- of an answer: 5, 6 or 7; the five cases refuse, though nothing before them does
 abbrev pub RefusedByCases : ℕ → Type 0
-RefusedByCases a = a ≡ 5
+RefusedByCases a = (5 ≤ a) × (a ≤ 7)
 
 -- only answer 0 changes a mark, the named one
 unfoldable pub marksAfter : Table → List ℕ → Proposal → List ℕ

@@ -14,8 +14,8 @@ pub struct Comparer {
     pub jobs: usize,
     /// How often each code was given.
     pub codes: [usize; 13],
-    /// How often each answer was given.
-    pub answers: [usize; 6],
+    /// How often each answer was given to an add, a remove and any other kind.
+    pub answers: [[usize; 8]; 3],
 }
 
 impl Comparer {
@@ -24,7 +24,7 @@ impl Comparer {
             folder: folder.into(),
             jobs: 0,
             codes: [0; 13],
-            answers: [0; 6],
+            answers: [[0; 8]; 3],
         }
     }
 
@@ -57,11 +57,27 @@ impl Comparer {
         self.jobs += 1;
         self.codes[plain.code as usize] += 1;
         if plain.code == 0 {
-            let proposals = Job::from_bytes(job).map_or(0, |job| job.proposals.len());
-            for &answer in &by_plain.answers[..proposals] {
-                self.answers[usize::from(answer)] += 1;
+            let proposals = Job::from_bytes(job).map_or(vec![], |job| job.proposals);
+            for ([_, kind], &answer) in proposals.iter().zip(&by_plain.answers) {
+                let kind = match *kind {
+                    Job::ADD => 0,
+                    Job::REMOVE => 1,
+                    _ => 2,
+                };
+                self.answers[kind][usize::from(answer)] += 1;
             }
         }
+    }
+
+    /// Adds, removes and other kinds have each had every answer that they can
+    /// have, at least so often.
+    pub fn each_answer(&self, often: usize) -> bool {
+        let [adds, removes, others] = &self.answers;
+        let each = |given: &[usize; 8], possible: &[usize]| {
+            possible.iter().all(|&answer| given[answer] >= often)
+        };
+        let possible = [0, 1, 3, 4, 5, 6, 7];
+        each(adds, &possible) && each(removes, &possible) && each(others, &[1, 2])
     }
 
     pub fn report(&self, title: &str) {

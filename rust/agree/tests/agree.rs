@@ -37,7 +37,7 @@ fn random_jobs() {
         if count >= 20_000 {
             let Comparer { codes, answers, .. } = comparer;
             assert!(codes.iter().all(|&given| given >= 100), "{codes:?}");
-            assert!(answers.iter().all(|&given| given >= 10_000), "{answers:?}");
+            assert!(comparer.each_answer(1_000), "{answers:?}");
         }
     });
 }
@@ -61,7 +61,7 @@ fn large_jobs() {
         if rounds >= 12 {
             let Comparer { codes, answers, .. } = comparer;
             assert!(codes[0] >= 30, "{codes:?}");
-            assert!(answers.iter().all(|&given| given >= 100), "{answers:?}");
+            assert!(comparer.each_answer(100), "{answers:?}");
         }
     });
 }
@@ -81,10 +81,11 @@ fn stored_jobs() {
             }
         }
         comparer.report("stored jobs");
-        // They show each code but 4, which is about room.
+        // They show each code but 4, which is about room, and each answer.
         for (code, &count) in comparer.codes.iter().enumerate() {
             assert_eq!(count > 0, code != 4, "code {code}");
         }
+        assert!(comparer.each_answer(1), "{:?}", comparer.answers);
     });
 }
 

@@ -1,6 +1,6 @@
 //! Random jobs of every sort, with the room lent for them.
 
-use crate::growth::{full_marks, grown_marks, propose, random_marks};
+use crate::growth::{dug_marks, full_marks, grown_marks, propose, random_marks};
 use crate::{tables, Job, Random, Table};
 use common::{Rooms, FEWEST_IDS, HEADER_BYTES, HEADER_WORDS, MOST_IDS, MOST_PROPOSALS, MOST_ROWS};
 
@@ -64,7 +64,11 @@ fn start_marks(table: &Table, random: &mut Random) -> (&'static str, Vec<u8>) {
     };
     match random.below(20) {
         0..6 => ("empty", vec![0; rows]),
-        6..14 => ("grown", grown(random)),
+        6..10 => ("grown", grown(random)),
+        10..14 => {
+            let steps = random.within(1, 2 * rows);
+            ("dug", dug_marks(table, steps, random))
+        }
         14..16 => ("full", full_marks(table)),
         16 | 17 => {
             let mut marks = grown(random);

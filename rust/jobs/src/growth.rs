@@ -6,13 +6,25 @@ use common::{Buffers, MOST_PROPOSALS};
 /// Marks that a run from empty marks leaves, after `steps` proposals of which
 /// most are adds.
 pub fn grown_marks(table: &Table, steps: usize, random: &mut Random) -> Vec<u8> {
+    marks_after(table.job(), steps, 90, random)
+}
+
+/// Marks that a run from full marks leaves, after `steps` proposals of which
+/// most are removes. There an add often has much of the inside about it.
+pub fn dug_marks(table: &Table, steps: usize, random: &mut Random) -> Vec<u8> {
     let mut job = table.job();
+    job.marks = full_marks(table);
+    marks_after(job, steps, 10, random)
+}
+
+/// The marks of a job after `steps` proposals, of which `adds` in 100 are adds.
+fn marks_after(mut job: Job, steps: usize, adds: usize, random: &mut Random) -> Vec<u8> {
     let mut marks = job.marks.clone();
     let mut left = steps;
     while left > 0 {
         let now = left.min(MOST_PROPOSALS);
         job.proposals.clear();
-        propose(&mut job, now, 90, random);
+        propose(&mut job, now, adds, random);
         marks = Standing::after(&job).map_or(marks, |standing| standing.marks);
         job.marks.clone_from(&marks);
         left -= now;

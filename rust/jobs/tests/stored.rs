@@ -8,9 +8,9 @@ use std::path::{Path, PathBuf};
 
 const FOLDER: &str = concat!(env!("CARGO_MANIFEST_DIR"), "/../../jobs");
 
-const NAMES: [&str; 17] = [
-    "a", "b", "c", "cut", "d", "e", "f", "g", "gap", "h", "i", "j", "largest", "n2049", "n4",
-    "short31", "v6",
+const NAMES: [&str; 19] = [
+    "a", "adds", "b", "c", "cut", "d", "e", "f", "g", "gap", "h", "i", "j", "largest", "n2049",
+    "n4", "removes", "short31", "v6",
 ];
 
 fn path(name: &str, ending: &str) -> PathBuf {
@@ -99,7 +99,7 @@ fn largest_is_as_large_as_a_job_may_be() {
         (MOST_ROWS, MOST_PROPOSALS)
     );
     let listing = read_text("largest", "out");
-    for answer in 0..=5 {
+    for answer in 0..=7 {
         let ending = format!(" {answer}");
         let given = |line: &str| line.starts_with("p ") && line.ends_with(&ending);
         assert!(listing.lines().any(given), "answer {answer}");

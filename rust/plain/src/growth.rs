@@ -41,23 +41,21 @@ fn judge(table: &Table, marks: &[u8], row: u32, kind: u32) -> u8 {
     if marks[row] != before {
         return 4;
     }
-    if passes(table, marks, row) {
-        0
-    } else {
-        5
-    }
+    local_test(table, marks, row)
 }
 
-/// The five cases. The other side is the rows whose mark differs from this
-/// row's: the inside rows for an add, the outside rows for a remove.
-fn passes(table: &Table, marks: &[u8], row: usize) -> bool {
+/// The five cases: 0 if they pass, else 5 and f, the number of the row's
+/// triangles on the skin. The other side is the rows whose mark differs from
+/// this row's: the inside rows for an add, the outside rows for a remove.
+fn local_test(table: &Table, marks: &[u8], row: usize) -> u8 {
     let other = |r: usize| marks[r] != marks[row];
     let free_corner = |corner: usize| {
         let id = usize::from(table.rows[row][corner]);
         !table.corners.at(id).iter().any(|&r| other(usize::from(r)))
     };
     let on_skin = table.neighbours[row].map(|across| other(across as usize));
-    match on_skin.iter().filter(|&&skin| skin).count() {
+    let f = on_skin.iter().filter(|&&skin| skin).count();
+    let passes = match f {
         0 => (0..4).all(free_corner),
         1 => (0..4).all(|corner| !on_skin[corner] || free_corner(corner)),
         // The edge in neither triangle joins the two left-out corners.
@@ -66,5 +64,10 @@ fn passes(table: &Table, marks: &[u8], row: usize) -> bool {
             .filter(|edge| on_skin[edge[0]] && on_skin[edge[1]])
             .all(|edge| !round_edge(table.rows, table.neighbours, row, edge).any(other)),
         _ => true,
+    };
+    if passes {
+        0
+    } else {
+        5 + f as u8
     }
 }

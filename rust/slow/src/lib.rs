@@ -1,6 +1,6 @@
-//! An engine for track jobs that follows document 01 word for word. Nothing in
-//! it is there to be quick, and beyond the numbers and types of `common` it
-//! shares no code with the other engines.
+//! An engine for track jobs that follows document 01, and document 02 as far
+//! as it is built, word for word. Nothing in it is there to be quick, and beyond
+//! the numbers and types of `common` it shares no code with the other engines.
 
 use common::{
     Lent, Outcome, Rooms, EDGES, HEADER_BYTES, IDS, MARK_BYTES, PROPOSALS, PROPOSAL_BYTES, ROWS,
@@ -228,10 +228,15 @@ fn answer(rows: &[Row], marks: &[u8], row: u32, kind: u32) -> u8 {
         3
     } else if (kind == 1 && marks[r] == 1) || (kind == 2 && marks[r] == 0) {
         4
-    } else if !five_cases_pass(rows, marks, r, kind) {
-        5
-    } else {
+    } else if five_cases_pass(rows, marks, r, kind) {
         0
+    } else {
+        match triangles_on_skin(rows, marks, r) {
+            0 => 5,
+            1 => 6,
+            2 => 7,
+            f => panic!("f = {f} passes"),
+        }
     }
 }
 

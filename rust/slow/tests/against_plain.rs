@@ -26,7 +26,7 @@ fn setting(name: &str, usual: u64) -> u64 {
 #[test]
 fn random_jobs() {
     let mut codes = [0; 13];
-    let mut answers = [0; 6];
+    let mut answers = [0; 8];
     let count = setting("AGREE_JOBS", 6000);
     let first = setting("AGREE_SEED", 1);
     for number in (first..).take(count as usize) {
@@ -49,7 +49,7 @@ fn random_jobs() {
     println!("codes {codes:?}\nanswers {answers:?}");
     if count >= 6000 {
         assert!(codes.iter().all(|&given| given >= 20), "{codes:?}");
-        assert!(answers.iter().all(|&given| given >= 1000), "{answers:?}");
+        assert!(answers.iter().all(|&given| given >= 500), "{answers:?}");
     }
 }
 
@@ -113,7 +113,8 @@ fn every_byte_and_length() {
 }
 
 /// On a closed table with a clean skin the five cases take a proposal exactly
-/// if the skin is clean after it. Each f must come with each answer it can have.
+/// if the skin is clean after it, and refuse it with 5 and f. Each f must come
+/// with each answer it can have.
 #[test]
 fn five_cases_keep_the_skin_clean() {
     let random = &mut Random::new(7);
@@ -130,15 +131,15 @@ fn five_cases_keep_the_skin_clean() {
         assert_eq!(outcome.code, 0);
         let mut marks = job.marks.clone();
         for (&[row, kind], &answer) in job.proposals.iter().zip(&buffers.answers) {
-            if answer != 0 && answer != 5 {
+            if (1..=4).contains(&answer) {
                 continue;
             }
             let row = row as usize;
             let f = slow::triangles_on_skin(&job.rows, &marks, row);
-            seen[kind as usize - 1][f][usize::from(answer == 5)] += 1;
+            seen[kind as usize - 1][f][usize::from(answer != 0)] += 1;
             marks[row] ^= 1;
             let clean = slow::is_clean(job.ids, &slow::skin(&job.rows, &marks));
-            assert_eq!(clean, answer == 0, "f = {f}");
+            assert_eq!(usize::from(answer), if clean { 0 } else { 5 + f });
             if !clean {
                 marks[row] ^= 1;
             }

@@ -1,7 +1,7 @@
 -- First match decides: a code is given exactly if its condition holds and none before it does.
 use mathlib.Core.Path.{_≡_, refl, sym, ap, _∙_}
 use mathlib.Core.Logic.{_⊎_, inl, inr, ⊎-elim, _↔_, _≢_}
-use mathlib.Core.Bool.{Bool, true, false, true≢false}
+use mathlib.Core.Bool.{Bool, true, false, cond, true≢false}
 use mathlib.Core.Option.{Option, some, none}
 use mathlib.Core.List.{List, [], _∷_, _++_}
 use Prim.Native.Nat.{ℕ, zero, suc, _+_, _≤_, _<_, suc-le-suc}
@@ -207,6 +207,12 @@ pub given-none : (b : Bool) → given b ≡ none → b ≡ false
 unfolding given found
 given-none true e = let z : _≡_ {A = ℕ} 0 1 = cc in absurd (omega arith)
 given-none false e = refl
+
+-- its code, or that of the tests behind it
+pub given-code : (code : ℕ) (b : Bool) (tests : List Test) → firstMatch code ((λ _. given b) ∷ tests) .code ≡ cond b code (firstMatch (suc code) tests .code)
+unfolding given found
+given-code code true tests = ap (λ (v : Verdict). v .code) (match-here code (λ _. given true) tests 0 refl)
+given-code code false tests = ap (λ (v : Verdict). v .code) (match-later code (λ _. given false) tests refl)
 
 -- ---- tests one group after the other
 

@@ -1,8 +1,8 @@
 -- Laws of gathered, tabulated and picked lists, and of parts.
 use mathlib.Core.Path.{_≡_, refl, sym, ap, ap₂, _∙_, subst, fun-ext}
-use mathlib.Core.Logic.{⊎-elim}
+use mathlib.Core.Logic.{⊎-elim, _↔_}
 use mathlib.Core.Bool.{Bool, true, false}
-use mathlib.Core.List.{List, [], _∷_, _++_, map, map-append, List·Memᴰ, List·Memᴰ·head, List·Memᴰ·tail, List·Memᴰ·not-nil, List·Memᴰ·append-cases, List·Memᴰ·eq-of-singleton, Memᴰ·append-left, Memᴰ·append-right, append-nil, append-assoc, flatten}
+use mathlib.Core.List.{List, [], _∷_, _++_, map, map-append, List·Memᴰ, List·Memᴰ·head, List·Memᴰ·tail, List·Memᴰ·not-nil, List·Memᴰ·cases-cons, List·Memᴰ·append-cases, List·Memᴰ·eq-of-singleton, Memᴰ·append-left, Memᴰ·append-right, append-nil, append-assoc, flatten}
 use Prim.Native.Nat.{ℕ, zero, suc, _+_, _-_, _*_, _≤_, _<_}
 use native.Mathlib.Nat.{le-of-suc-le-suc, not-suc-le-zero, eq-or-lt-of-le, le-refl, le-step, lt-irrefl, add-zero, add-suc, mul-zero, mul-suc}
 use native.Mathlib.Numerals.{add-one}
@@ -10,7 +10,8 @@ use native.Mathlib.Omega.{arith}
 use lib.ListN.{length, getD, take, drop, length-append, length-drop, List·getD-append}
 use lib.Seq.{length-take-le, getD-at, ext-getD}
 use Rattle.rules.specs.Below.{bit, sum, count, gather, tabulate, only, pick}
-use Rattle.rules.specs.Laws.Truth.{not-both}
+use Rattle.rules.specs.Laws.Truth.{not-both, is-false}
+use Rattle.rules.specs.Laws.Count.{none-count, count-without, without, without-is, is-without}
 
 -- x is among the members of the list
 abbrev pub Among {ℓ} : {A : Type ℓ} → A → List A → Type ℓ
@@ -167,6 +168,41 @@ gathered-once {A = A} (suc n) p f one = go (p n) refl (gathered-once n p f (λ j
 pub pick-distinct : (n : ℕ) (p : ℕ → Bool) → Distinct (pick n p)
 unfolding pick
 pick-distinct n p = gathered-once n p (λ k. k) (λ j k _ _ _ _ e. e)
+
+-- Exactly f of the numbers below n have the property: those listed.
+pub record Exactly (n : ℕ) (P : ℕ → Type 0) (f : ℕ) : Type 0 where
+  pub those : List ℕ
+  pub as-many : length those ≡ f
+  pub once : Distinct those
+  pub all-of-them : (k : ℕ) → Among k those ↔ ((k < n) × P k)
+
+pub exactly-map : {n f : ℕ} {P Q : ℕ → Type 0} → ((k : ℕ) → P k ↔ Q k) → Exactly n P f → Exactly n Q f
+exactly-map same x = record {
+  those = x .those;
+  as-many = x .as-many;
+  once = x .once;
+  all-of-them = λ k. (λ m. let (l, h) = x .all-of-them k .0 m in (l, same k .0 h), λ (l, h). x .all-of-them k .1 (l, same k .1 h));
+}
+
+-- a list of those that pass, each once, is as long as they are many
+listed-count : (n : ℕ) (p : ℕ → Bool) (xs : List ℕ) → Distinct xs → ((k : ℕ) → Among k xs ↔ ((k < n) × (p k ≡ true))) → length xs ≡ count n p
+listed-count n p [] d all = sym (none-count n p (λ k l. is-false (p k) (λ t. List·Memᴰ·not-nil (all k .1 (l, t)))))
+listed-count n p (x ∷ xs) (new, d) all =
+    let (lx, tx) = all x .0 (List·Memᴰ·head refl) in
+    omega (
+      arith,
+      count-without n p x lx tx,
+      listed-count n (without p x) xs d (λ k. (
+        λ m. let (l, t) = all k .0 (List·Memᴰ·tail m) in (l, is-without p x k t (λ (e : k ≡ x). new (subst (λ (j : ℕ). Among j xs) e m))),
+        λ (l, w). let (t, ne) = without-is p x k w in ⊎-elim (λ (e : k ≡ x). absurd (ne e)) (λ m. m) (List·Memᴰ·cases-cons (all k .1 (l, t))),
+      )),
+    )
+
+pub count-exactly : (n : ℕ) (p : ℕ → Bool) (f : ℕ) → (count n p ≡ f) ↔ Exactly n (λ k. p k ≡ true) f
+count-exactly n p f = (
+  λ e. record { those = pick n p; as-many = pick-length n p ∙ e; once = pick-distinct n p; all-of-them = λ k. (pick-in n p k, λ (l, t). in-pick n p k l t) },
+  λ x. sym (listed-count n p (x .those) (x .once) (x .all-of-them)) ∙ x .as-many,
+)
 
 -- each member is below all after it
 abbrev pub Ascending : List ℕ → Type 0

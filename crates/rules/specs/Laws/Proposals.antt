@@ -1,18 +1,32 @@
--- Laws of answering: a list of proposals, one part after the other.
+-- Laws of answering: one proposal by its tests, and a list of proposals, one part after the other.
 use mathlib.Core.Path.{_≡_, refl, ap, _∙_}
 use mathlib.Core.Logic.{⊎-elim}
-use mathlib.Core.Bool.{true, false}
+use mathlib.Core.Bool.{true, false, not, _||_, cond}
 use mathlib.Core.List.{List, [], _∷_, _++_}
 use Prim.Native.Nat.{ℕ, zero, suc, _+_, _≤_, _<_}
 use native.Mathlib.Nat.{add-comm, not-suc-le-zero, le-of-suc-le-suc}
 use native.Mathlib.Omega.{arith}
-use lib.Dec.{eqb}
+use lib.Dec.{eqb, ltb}
 use lib.ListN.{length, getD, take, length-set}
 use Rattle.rules.specs.Below.{bit}
-use Rattle.rules.specs.Table.{Table}
-use Rattle.rules.specs.Proposals.{Proposal, adds, answer, marksAfter, answersTo, finalMarks, taken}
+use Rattle.rules.specs.Table.{Table, holds, outer}
+use Rattle.rules.specs.Cases.{otherSide, caseAnswer}
+use Rattle.rules.specs.Proposals.{Proposal, insideIn, adds, answerTests, answer, marksAfter, answersTo, finalMarks, taken}
 use Rattle.rules.specs.Laws.Truth.{true-or-false}
 use Rattle.rules.specs.Laws.Count.{bit-small}
+use Rattle.rules.specs.Laws.First.{given-code}
+
+module _ (t : Table) (marks : List ℕ) (p : Proposal) where
+  -- the tests 1 to 4, and behind them the five cases
+  pub answer-is : answer t marks p
+      ≡ cond (not (ltb (p .row) (t .rows))) 1 (cond (not (eqb (p .kind) 1 || eqb (p .kind) 2)) 2 (cond (holds t (p .row) 0) 3
+      (cond (otherSide (adds p) (insideIn marks) (p .row)) 4 (caseAnswer t (insideIn marks) (adds p) (p .row)))))
+  unfolding answer answerTests outer
+  answer-is =
+      given-code 1 (not (ltb (p .row) (t .rows))) _
+      ∙ ap (λ (n : ℕ). cond (not (ltb (p .row) (t .rows))) 1 n) (given-code 2 (not (eqb (p .kind) 1 || eqb (p .kind) 2)) _
+      ∙ ap (λ (n : ℕ). cond (not (eqb (p .kind) 1 || eqb (p .kind) 2)) 2 n) (given-code 3 (holds t (p .row) 0) _
+      ∙ ap (λ (n : ℕ). cond (holds t (p .row) 0) 3 n) (given-code 4 (otherSide (adds p) (insideIn marks) (p .row)) _)))
 
 module _ (t : Table) where
   pub final-append : (marks : List ℕ) (xs ys : List Proposal) → finalMarks t marks (xs ++ ys) ≡ finalMarks t (finalMarks t marks xs) ys

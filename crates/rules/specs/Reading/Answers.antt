@@ -4,23 +4,24 @@ use mathlib.Core.Logic.{_⊎_, inl, inr, ⊎-elim, _↔_, Iff·symm, Iff·trans,
 use mathlib.Core.Bool.{Bool, true, false, not, _&&_, _||_}
 use mathlib.Core.Option.{none}
 use mathlib.Core.List.{List, [], _∷_, List·Memᴰ·head, List·Memᴰ·eq-of-singleton}
-use Prim.Native.Nat.{ℕ, _+_, _≤_, _<_}
+use Prim.Native.Nat.{ℕ, zero, suc, _+_, _≤_, _<_}
 use native.Mathlib.Nat.{zero-lt-suc}
 use native.Mathlib.Omega.{arith}
 use lib.Dec.{eqb, ltb}
 use borrow.Author.Tests.{eq-eqb, eqb-false, ne-eqb, ltb-false, le-ltb, not-true, not-false}
-use Rattle.rules.specs.Below.{any, all, count, pick}
+use Rattle.rules.specs.Below.{any, all, pick}
 use Rattle.rules.specs.Table.{Table, outer, holdsFace}
 use Rattle.rules.specs.Skin.{onSkin}
-use Rattle.rules.specs.Cases.{otherSide, free, passes}
+use Rattle.rules.specs.Cases.{otherSide, free, trianglesOnSkin, passes, refusesAt, caseTests}
 use Rattle.rules.specs.First.{given}
 use Rattle.rules.specs.Proposals.{Proposal, insideIn, adds, answerTests, answer}
-use Rattle.rules.specs.Laws.Truth.{not-both, is-false, and-first, and-second, and-both, or-reads, eqb-reads, or-no-first, or-no-second, same-or-not, lower-or-higher}
+use Rattle.rules.specs.Laws.Truth.{not-both, is-false, and-first, and-second, and-both, and-reads, or-reads, eqb-reads, or-no-first, or-no-second, lower-or-higher}
 use Rattle.rules.specs.Laws.Below.{any-here, any-some, all-fails, fails-all}
 use Rattle.rules.specs.Laws.Count.{count-zero, none-count, ExactlyOne, one-map, ExactlyTwo, two-map, count-one, one-count, count-two, two-count}
-use Rattle.rules.specs.Laws.Lists.{in-pick, pick-in}
+use Rattle.rules.specs.Laws.Lists.{in-pick, pick-in, Exactly, exactly-map, count-exactly}
 use Rattle.rules.specs.Laws.First.{Reads, FirstOf, conditionAt, code-reads, none-reads, given-reads, given-none}
 use Rattle.rules.specs.Laws.Shape.{InTriangle, in-neither}
+use Rattle.rules.specs.Laws.Cases.{refused-f}
 use Rattle.rules.specs.Reading.Rows.{Holds, holds-reads}
 use Rattle.rules.specs.Reading.Closed.{HoldsFace, holds-face-reads}
 use Rattle.rules.specs.Reading.Skin.{Inside, inside-reads, OnSkin, skin-reads}
@@ -42,6 +43,17 @@ module _ (t : Table) (Other : ℕ → Type 0) where
   HoldsNeither r c d =
       (i : ℕ) × (j : ℕ) × (i < j) × (j < t .corners) × (InTriangle c i j → ⊥) × (InTriangle d i j → ⊥) × SomeOther (HoldsEdge t r i j)
 
+-- f of the triangles of row r are on the skin
+abbrev pub TrianglesOnSkin : Table → (ℕ → Type 0) → ℕ → ℕ → Type 0
+TrianglesOnSkin t In r f = Exactly (t .corners) (OnSkin t In r) f
+
+pub triangles-read : (t : Table) (marks : List ℕ) (r f : ℕ) → (trianglesOnSkin t (insideIn marks) r ≡ f) ↔ TrianglesOnSkin t (Inside marks) r f
+unfolding trianglesOnSkin
+triangles-read t marks r f =
+    let skin = skin-reads t (insideIn marks) (inside-reads marks) r in
+    let (forth, back) = count-exactly (t .corners) (onSkin t (insideIn marks) r) f in
+    (λ e. exactly-map skin (forth e), λ x. back (exactly-map (λ c. Iff·symm (skin c)) x))
+
 -- `Skin c`: the triangle of row r that leaves out corner c is on the skin
 module _ (t : Table) (Skin Other : ℕ → Type 0) (r : ℕ) where
   -- f = 0: a row of the other side holds one of the vertices
@@ -56,8 +68,16 @@ module _ (t : Table) (Skin Other : ℕ → Type 0) (r : ℕ) where
   abbrev pub Refuses2 : Type 0
   Refuses2 = (x : ExactlyTwo (t .corners) Skin) × HoldsNeither t Other r (x .one) (x .two)
 
+  -- the row has f triangles on the skin, and that case refuses it
+  abbrev pub RefusesAt : ℕ → Type 0
+  RefusesAt zero = Refuses0
+  RefusesAt (suc zero) = Refuses1
+  RefusesAt (suc (suc zero)) = Refuses2
+  RefusesAt (suc (suc (suc f))) = ⊥
+
+  -- one of the cases refuses it
   abbrev pub Refuses : Type 0
-  Refuses = Refuses0 ⊎ (Refuses1 ⊎ Refuses2)
+  Refuses = (f : ℕ) × RefusesAt f
 
   -- the edge that is in neither has the two left-out corners
   pub neither-holds : (x : ExactlyTwo (t .corners) Skin) → HoldsNeither t Other r (x .one) (x .two) ↔ SomeOther t Other (HoldsEdge t r (x .one) (x .two))
@@ -80,12 +100,13 @@ module _ (t : Table) (Skin Other : ℕ → Type 0) (r : ℕ) where
           (lower-or-higher (x .one) (x .two) (x .differ))
 
 -- the same skin triangles and the same other side
-pub refuses-map : (t : Table) (r : ℕ) {S S′ O O′ : ℕ → Type 0} → ((c : ℕ) → S c ↔ S′ c) → ((s : ℕ) → O s ↔ O′ s) → Refuses t S O r → Refuses t S′ O′ r
+refuses-map : (t : Table) (r : ℕ) {S S′ O O′ : ℕ → Type 0} → ((c : ℕ) → S c ↔ S′ c) → ((s : ℕ) → O s ↔ O′ s) → (f : ℕ) → RefusesAt t S O r f → RefusesAt t S′ O′ r f
 unfolding one-map two-map
-refuses-map t r skin other (inl (clear, (c, l, (s, ls, o, h)))) = inl (λ c l x. clear c l (skin c .1 x), (c, l, (s, ls, other s .0 o, h)))
-refuses-map t r skin other (inr (inl (x, (s, ls, o, h)))) = inr (inl (one-map (λ c. skin c .0) (λ c. skin c .1) x, (s, ls, other s .0 o, h)))
-refuses-map t r skin other (inr (inr (x, (i, j, l, m, p, q, (s, ls, o, h))))) =
-    inr (inr (two-map (λ c. skin c .0) (λ c. skin c .1) x, (i, j, l, m, p, q, (s, ls, other s .0 o, h))))
+refuses-map t r skin other zero (clear, (c, l, (s, ls, o, h))) = (λ c l x. clear c l (skin c .1 x), (c, l, (s, ls, other s .0 o, h)))
+refuses-map t r skin other (suc zero) (x, (s, ls, o, h)) = (one-map (λ c. skin c .0) (λ c. skin c .1) x, (s, ls, other s .0 o, h))
+refuses-map t r skin other (suc (suc zero)) (x, (i, j, l, m, p, q, (s, ls, o, h))) =
+    (two-map (λ c. skin c .0) (λ c. skin c .1) x, (i, j, l, m, p, q, (s, ls, other s .0 o, h)))
+refuses-map t r skin other (suc (suc (suc f))) x = absurd x
 
 -- ---- the computed test says so
 
@@ -93,6 +114,9 @@ other-side-reads : (adding : Bool) (inside : ℕ → Bool) (s : ℕ) → (otherS
 unfolding otherSide
 other-side-reads true inside s = (λ e. e, λ e. e)
 other-side-reads false inside s = (λ e. not-true (inside s) e, λ e. ap not e)
+
+not-is : (b : Bool) → (not b ≡ true) ↔ (b ≡ false)
+not-is b = (not-true b, λ e. ap not e)
 
 module _ (t : Table) (inside : ℕ → Bool) (adding : Bool) (r : ℕ) where
   abbrev Skin : ℕ → Type 0
@@ -119,8 +143,8 @@ module _ (t : Table) (inside : ℕ → Bool) (adding : Bool) (r : ℕ) where
 
   -- ---- by f, the number of skin triangles
 
-  f : ℕ
-  f = count (t .corners) (onSkin t inside r)
+  abbrev f : ℕ
+  f = trianglesOnSkin t inside r
 
   -- the left-out corners of the skin triangles
   leftOut : List ℕ
@@ -134,7 +158,7 @@ module _ (t : Table) (inside : ℕ → Bool) (adding : Bool) (r : ℕ) where
   )
 
   case0 : f ≡ 0 → (passes t inside adding r ≡ false) ↔ Refuses0 t Skin Other r
-  unfolding passes f
+  unfolding passes trianglesOnSkin
   case0 z = (
     λ e.
         let (c, l, q) = all-fails (t .corners) (λ c. free t (otherSide adding inside) r (c ∷ [])) (sym value ∙ e) in
@@ -149,7 +173,7 @@ module _ (t : Table) (inside : ℕ → Bool) (adding : Bool) (r : ℕ) where
       value = rw z
 
   case1 : f ≡ 1 → (passes t inside adding r ≡ false) ↔ Refuses1 t Skin Other r
-  unfolding passes f leftOut
+  unfolding passes trianglesOnSkin leftOut
   case1 one = (
     λ e.
         let x = count-one (t .corners) (onSkin t inside r) one in
@@ -162,7 +186,7 @@ module _ (t : Table) (inside : ℕ → Bool) (adding : Bool) (r : ℕ) where
       value = rw one
 
   case2 : f ≡ 2 → (passes t inside adding r ≡ false) ↔ Refuses2 t Skin Other r
-  unfolding passes f leftOut
+  unfolding passes trianglesOnSkin leftOut
   case2 two = (
     λ e.
         let x = count-two (t .corners) (onSkin t inside r) two in
@@ -175,23 +199,23 @@ module _ (t : Table) (inside : ℕ → Bool) (adding : Bool) (r : ℕ) where
       value : passes t inside adding r ≡ free t (otherSide adding inside) r leftOut
       value = rw two
 
-  -- f = 3 and f = 4 pass
-  case-more : f ≢ 0 → f ≢ 1 → f ≢ 2 → passes t inside adding r ≡ true
-  unfolding passes f
-  case-more n₀ n₁ n₂ = rw (ne-eqb f 0 n₀, ne-eqb f 1 n₁, ne-eqb f 2 n₂)
+  -- by f, the cases refuse exactly so
+  refuses-by-f : (g : ℕ) → ((f ≡ g) × (passes t inside adding r ≡ false)) ↔ RefusesAt t Skin Other r g
+  unfolding trianglesOnSkin
+  refuses-by-f zero = (
+    λ (z, n). case0 z .0 n,
+    λ x. let z : f ≡ 0 = none-count (t .corners) (onSkin t inside r) (λ c l. is-false (onSkin t inside r c) (x .0 c l)) in (z, case0 z .1 x),
+  )
+  refuses-by-f (suc zero) = (λ (one, n). case1 one .0 n, λ x. let one : f ≡ 1 = one-count (t .corners) (onSkin t inside r) (x .0) in (one, case1 one .1 x))
+  refuses-by-f (suc (suc zero)) = (λ (two, n). case2 two .0 n, λ x. let two : f ≡ 2 = two-count (t .corners) (onSkin t inside r) (x .0) in (two, case2 two .1 x))
+  refuses-by-f (suc (suc (suc g))) = (λ (e, n). absurd (omega (arith, e, refused-f t inside adding r n)), λ x. absurd x)
+
+  refuses-at-reads : (g : ℕ) → (refusesAt t inside adding r g ≡ true) ↔ RefusesAt t Skin Other r g
+  unfolding refusesAt
+  refuses-at-reads g = Iff·trans (and-reads (eqb-reads f g) (not-is (passes t inside adding r))) (refuses-by-f g)
 
   pub passes-reads : (passes t inside adding r ≡ false) ↔ Refuses t Skin Other r
-  unfolding f
-  passes-reads = (
-    λ e. ⊎-elim (λ z. inl (case0 z .0 e)) (λ n₀. ⊎-elim (λ o. inr (inl (case1 o .0 e))) (λ n₁. ⊎-elim (λ w. inr (inr (case2 w .0 e)))
-        (λ n₂. absurd (not-both (case-more n₀ n₁ n₂) e)) (same-or-not f 2)) (same-or-not f 1)) (same-or-not f 0),
-    back,
-  )
-    where
-      back : Refuses t Skin Other r → passes t inside adding r ≡ false
-      back (inl x) = case0 (none-count (t .corners) (onSkin t inside r) (λ c l. is-false (onSkin t inside r c) (x .0 c l))) .1 x
-      back (inr (inl x)) = case1 (one-count (t .corners) (onSkin t inside r) (x .0)) .1 x
-      back (inr (inr x)) = case2 (two-count (t .corners) (onSkin t inside r) (x .0)) .1 x
+  passes-reads = (λ n. (f, refuses-by-f f .0 (refl, n)), λ (g, x). refuses-by-f g .1 x .1)
 
 -- ---- the answers
 
@@ -200,11 +224,11 @@ abbrev pub OtherSide : ℕ → (ℕ → Type 0) → ℕ → Type 0
 OtherSide kind In s = ((kind ≡ 1) × In s) ⊎ ((kind ≡ 2) × (In s → ⊥))
 
 module _ (t : Table) (marks : List ℕ) (p : Proposal) where
-  -- the five cases refuse
-  abbrev pub CasesRefuse : Type 0
-  CasesRefuse = Refuses t (OnSkin t (Inside marks) (p .row)) (OtherSide (p .kind) (Inside marks)) (p .row)
+  -- the row has f triangles on the skin, and that case refuses it
+  abbrev pub CaseRefuses : ℕ → Type 0
+  CaseRefuses f = RefusesAt t (OnSkin t (Inside marks) (p .row)) (OtherSide (p .kind) (Inside marks)) (p .row) f
 
-  -- when each of the answers 1 to 5 applies. (The place of each is 0.)
+  -- when each of the answers 1 to 7 applies. (The place of each is 0.)
   abbrev pub answerConditions : List (ℕ → Type 0)
   answerConditions =
       -- 1: row number not below N
@@ -215,8 +239,10 @@ module _ (t : Table) (marks : List ℕ) (p : Proposal) where
       ∷ (λ place. Holds t (p .row) 0 × (place ≡ 0))
       -- 4: add of an inside row, remove of an outside row
       ∷ (λ place. OtherSide (p .kind) (Inside marks) (p .row) × (place ≡ 0))
-      -- 5: the five cases refuse
-      ∷ (λ place. CasesRefuse × (place ≡ 0))
+      -- 5, 6, 7: the five cases refuse, at f = 0, 1, 2
+      ∷ (λ place. CaseRefuses 0 × (place ≡ 0))
+      ∷ (λ place. CaseRefuses 1 × (place ≡ 0))
+      ∷ (λ place. CaseRefuses 2 × (place ≡ 0))
       ∷ []
 
   -- for a kind that is 1 or 2 the tests say so
@@ -237,16 +263,16 @@ module _ (t : Table) (marks : List ℕ) (p : Proposal) where
               ⊎-elim (λ (k′, _). absurd (omega arith)) (λ (_, off). is-false (insideIn marks s) (λ i. off (inside-reads marks s .0 i)) ∙ sym is),
             )
 
-    pub cases-read : (passes t (insideIn marks) (adds p) (p .row) ≡ false) ↔ CasesRefuse
-    cases-read =
+    case-reads : (f : ℕ) → (refusesAt t (insideIn marks) (adds p) (p .row) f ≡ true) ↔ CaseRefuses f
+    case-reads f =
         let skin = skin-reads t (insideIn marks) (inside-reads marks) (p .row) in
-        let (forth, back) = passes-reads t (insideIn marks) (adds p) (p .row) in (
-          λ e. refuses-map t (p .row) skin other-reads (forth e),
-          λ x. back (refuses-map t (p .row) (λ c. Iff·symm (skin c)) (λ s. Iff·symm (other-reads s)) x),
+        let (forth, back) = refuses-at-reads t (insideIn marks) (adds p) (p .row) f in (
+          λ e. refuses-map t (p .row) skin other-reads f (forth e),
+          λ x. back (refuses-map t (p .row) (λ c. Iff·symm (skin c)) (λ s. Iff·symm (other-reads s)) f x),
         )
 
   answers-read : Reads (answerTests t marks p) answerConditions
-  unfolding answerTests outer
+  unfolding answerTests caseTests outer
   answers-read = (
     given-reads (not-reads-le (p .row) (t .rows)),
     λ _. (
@@ -255,7 +281,7 @@ module _ (t : Table) (marks : List ℕ) (p : Proposal) where
         given-reads (holds-reads t (p .row) 0),
         λ _. (
           given-reads (Iff·trans (other-side-reads (adds p) (insideIn marks) (p .row)) (other-reads (known passed) (p .row))),
-          λ _. (given-reads (Iff·trans (not-is (passes t (insideIn marks) (adds p) (p .row))) (cases-read (known passed))), λ _. tt),
+          λ _. (given-reads (case-reads (known passed) 0), λ _. (given-reads (case-reads (known passed) 1), λ _. (given-reads (case-reads (known passed) 2), λ _. tt))),
         ),
       ),
     ),
@@ -263,9 +289,6 @@ module _ (t : Table) (marks : List ℕ) (p : Proposal) where
     where
       not-reads-le : (a b : ℕ) → (not (ltb a b) ≡ true) ↔ (b ≤ a)
       not-reads-le a b = (λ e. ltb-false a b (not-true (ltb a b) e), λ l. ap not (le-ltb a b l))
-
-      not-is : (b : Bool) → (not b ≡ true) ↔ (b ≡ false)
-      not-is b = (not-true b, λ e. ap not e)
 
       kinds : (not (eqb (p .kind) 1 || eqb (p .kind) 2) ≡ true) ↔ ((p .kind ≢ 1) × (p .kind ≢ 2))
       kinds = (
@@ -281,8 +304,8 @@ module _ (t : Table) (marks : List ℕ) (p : Proposal) where
           (not-false (eqb (p .kind) 1 || eqb (p .kind) 2) (given-none (not (eqb (p .kind) 1 || eqb (p .kind) 2)) off))
 
   -- answer 1 + i is given exactly if it applies and none before it does
-  pub answer-exactly : (i : ℕ) → i < 5 → (answer t marks p ≡ 1 + i) ↔ ((place : ℕ) × FirstOf answerConditions i place)
-  unfolding answer answerTests
+  pub answer-exactly : (i : ℕ) → i < 7 → (answer t marks p ≡ 1 + i) ↔ ((place : ℕ) × FirstOf answerConditions i place)
+  unfolding answer answerTests caseTests
   answer-exactly i l = code-reads 1 (zero-lt-suc 0) (answerTests t marks p) answerConditions answers-read i l
 
   -- answer 0 exactly if none applies

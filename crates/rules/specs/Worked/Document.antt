@@ -17,10 +17,10 @@ documentJobs =
     (marked 5 (4 ∷ []))
     (three 2 3 4 ++ three 1 3 4 ++ three 1 2 4 ++ three 1 2 3)
     (row 4 3 2 1 ++ row 4 3 2 0 ++ row 4 3 1 0 ++ row 4 2 1 0 ++ row 3 2 1 0))
-    -- (b) B's answers
+    -- (b) B's answers, as document 02 (i) has them
     ∷ accepts 7 tableB (marked 12 []) (add 8 ++ add 11 ++ add 10 ++ add 11 ++ add 9 ++ remove 8 ++ remove 11)
     (done 5 8
-    (0 ∷ 5 ∷ 0 ∷ 0 ∷ 0 ∷ 0 ∷ 5 ∷ [])
+    (0 ∷ 5 ∷ 0 ∷ 0 ∷ 0 ∷ 0 ∷ 7 ∷ [])
     (marked 12 (9 ∷ 10 ∷ 11 ∷ []))
     (three 2 3 6 ++ three 1 3 6 ++ three 1 2 3 ++ three 2 4 5 ++ three 1 4 5 ++ three 1 2 4 ++ three 2 5 6
     ++ three 1 5 6)

@@ -16,7 +16,7 @@ harderJobs =
     -- the f = 1 case refuses, the f = 3 case passes, and outer rows count on a remove
     accepts 8 tableC (marked 15 []) (add 10 ++ add 7 ++ add 13 ++ add 8 ++ add 9 ++ remove 8 ++ remove 10)
     (done 5 8
-    (0 ∷ 0 ∷ 0 ∷ 0 ∷ 5 ∷ 0 ∷ 5 ∷ [])
+    (0 ∷ 0 ∷ 0 ∷ 0 ∷ 6 ∷ 0 ∷ 7 ∷ [])
     (marked 15 (7 ∷ 10 ∷ 13 ∷ []))
     (three 1 5 7 ++ three 1 2 7 ++ three 1 2 5 ++ three 2 3 7 ++ three 2 3 5 ++ three 4 5 7 ++ three 3 4 7
     ++ three 3 4 5)
@@ -33,7 +33,7 @@ pub harder-jobs : map ran harderJobs ≡ map known harderJobs
 unfolding ran
 harder-jobs = refl
 
--- ---- each answer, for add and for remove: 0 at each f, 5 at f = 0, 1 and 2, and 1 to 4
+-- ---- each answer, for add and for remove: 0 at each f, 5, 6 and 7, and 1 to 4
 
 abbrev pub neighboursD : List ℕ
 neighboursD =
@@ -41,23 +41,31 @@ neighboursD =
     ++ row 13 8 7 5 ++ row 14 12 11 6 ++ row 15 12 10 7 ++ row 16 11 10 8 ++ row 16 15 14 9 ++ row 16 15 13 10 ++ row 16 14 13 11
     ++ row 15 14 13 12
 
-abbrev pub answerJobs : List Worked
-answerJobs =
-    -- from all finite rows, at f = 0 0 1 4 1 1 2 2 2 3; the add is the fourth
+-- from all finite rows, at f = 0 0 1 4 1 1 2 2 2 3; the add is the fourth
+abbrev pub removesD : Worked
+removesD =
     accepts 9 tableD (marked 17 (4 ∷ 5 ∷ 6 ∷ 7 ∷ 8 ∷ 9 ∷ 10 ∷ 11 ∷ 12 ∷ 13 ∷ 14 ∷ 15 ∷ 16 ∷ [])) (remove 9 ++ remove 16 ++ remove 15 ++ add 16 ++ remove 7 ++ remove 9 ++ remove 8 ++ remove 4 ++ remove 6
     ++ remove 5)
     (done 7 6
-    (5 ∷ 0 ∷ 5 ∷ 0 ∷ 0 ∷ 0 ∷ 0 ∷ 0 ∷ 5 ∷ 0 ∷ [])
+    (5 ∷ 0 ∷ 6 ∷ 0 ∷ 0 ∷ 0 ∷ 0 ∷ 0 ∷ 7 ∷ 0 ∷ [])
     (marked 17 (6 ∷ 10 ∷ 11 ∷ 12 ∷ 13 ∷ 14 ∷ 15 ∷ 16 ∷ []))
     (three 1 4 5 ++ three 1 3 5 ++ three 1 3 4 ++ three 3 4 6 ++ three 3 5 6 ++ three 4 5 6)
     neighboursD)
-    -- from empty marks, at f = 0 0 4 0 1 1 1 2 2 2 3; the remove is the third
-    ∷ accepts 9 tableD (marked 17 []) (add 9 ++ add 14 ++ remove 9 ++ add 16 ++ add 12 ++ add 11 ++ add 14 ++ add 15 ++ add 13 ++ add 10 ++ add 14)
+
+-- from empty marks, at f = 0 0 4 0 1 1 1 2 2 2 3; the remove is the third
+abbrev pub addsD : Worked
+addsD =
+    accepts 9 tableD (marked 17 []) (add 9 ++ add 14 ++ remove 9 ++ add 16 ++ add 12 ++ add 11 ++ add 14 ++ add 15 ++ add 13 ++ add 10 ++ add 14)
     (done 8 6
-    (0 ∷ 5 ∷ 0 ∷ 0 ∷ 0 ∷ 0 ∷ 5 ∷ 0 ∷ 0 ∷ 5 ∷ 0 ∷ [])
+    (0 ∷ 5 ∷ 0 ∷ 0 ∷ 0 ∷ 0 ∷ 6 ∷ 0 ∷ 0 ∷ 7 ∷ 0 ∷ [])
     (marked 17 (11 ∷ 12 ∷ 13 ∷ 14 ∷ 15 ∷ 16 ∷ []))
     (three 3 4 7 ++ three 3 4 6 ++ three 3 5 7 ++ three 3 5 6 ++ three 4 5 6 ++ three 4 5 7)
     neighboursD)
+
+abbrev pub answerJobs : List Worked
+answerJobs =
+    removesD
+    ∷ addsD
     -- answers 1 to 4: of two that apply the first is given
     ∷ accepts 9 tableD (marked 17 []) (add 17 ++ remove 17 ++ proposal 17 3 ++ proposal 16 0 ++ proposal 16 3 ++ proposal 0 3 ++ add 0 ++ remove 0
     ++ remove 16 ++ add 16 ++ add 16)

@@ -1,7 +1,8 @@
+use mathlib.Core.Path.{_∙_}
 use native.Mathlib.Omega.{arith}
 use borrow.Author.Needs.{needs}
 use Rattle.table.specs.Rows.{tableIn}
-use Rattle.growth.specs.Answers.{no-such-row, no-such-kind, outer-row, there-already, cases-refuse, none-applies}
+use Rattle.growth.specs.Answers.{no-such-row, no-such-kind, outer-row, there-already, by-cases}
 use Rattle.growth.proofs.answering.answer.Statement.{statement}
 use Rattle.growth.proofs.answering.answer.Tie as tie
 
@@ -23,14 +24,11 @@ on-other-side-requires c κs = search needs
 returns-4 : tie.Need-returns-4
 returns-4 c = there-already (tableIn _) _ _ _ (omega (arith, c .before .before .before .before .before .before .row-count .ensures, c .before .before .before .before .before .if1 .left)) (c .before .before .before .before .if2 .left) (c .before .before .before .holds .ensures) (c .before .before .if3 .left) (c .before .on-other-side .ensures) (c .if4 .taken)
 
-passes-requires : tie.Need-passes-requires
-passes-requires c κs = search needs
+local-test-requires : tie.Need-local-test-requires
+local-test-requires c κs = search needs
 
 returns-5 : tie.Need-returns-5
-returns-5 c = cases-refuse (tableIn _) _ _ _ (omega (arith, c .before .before .before .before .before .before .before .before .row-count .ensures, c .before .before .before .before .before .before .before .if1 .left)) (c .before .before .before .before .before .before .if2 .left) (c .before .before .before .before .before .holds .ensures) (c .before .before .before .before .if3 .left) (c .before .before .before .on-other-side .ensures) (c .before .before .if4 .left) (c .before .passes .ensures) (c .if5 .taken)
-
-returns-6 : tie.Need-returns-6
-returns-6 c = none-applies (tableIn _) _ _ _ (omega (arith, c .before .before .before .before .before .before .before .before .row-count .ensures, c .before .before .before .before .before .before .before .if1 .left)) (c .before .before .before .before .before .before .if2 .left) (c .before .before .before .before .before .holds .ensures) (c .before .before .before .before .if3 .left) (c .before .before .before .on-other-side .ensures) (c .before .before .if4 .left) (c .before .passes .ensures) (c .if5 .left)
+returns-5 c = by-cases (tableIn _) _ _ _ (omega (arith, c .before .before .before .before .before .before .before .before .row-count .ensures, c .before .before .before .before .before .before .before .if1 .left)) (c .before .before .before .before .before .before .if2 .left) (c .before .before .before .before .before .holds .ensures) (c .before .before .before .before .if3 .left) (c .before .before .before .on-other-side .ensures) (c .before .before .if4 .left) (c .answer-of .ensures ∙ c .before .local-test .ensures)
 
 pub answer-spec : {M : Type 1} → statement M
 answer-spec =
@@ -43,6 +41,6 @@ answer-spec =
     returns-3
     on-other-side-requires
     returns-4
-    passes-requires
-    returns-5
-    returns-6)
+    local-test-requires
+    (λ c κs. tt)
+    returns-5)

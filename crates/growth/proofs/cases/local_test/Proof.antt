@@ -2,8 +2,8 @@ use mathlib.Core.Path.{sym, _∙_}
 use borrow.Author.Needs.{needs}
 use Rattle.growth.specs.Around.{ground-surrounds, counted-one}
 use Rattle.growth.specs.Cases.{case-none, case-one, case-two, case-more}
-use Rattle.growth.proofs.cases.passes.Statement.{statement}
-use Rattle.growth.proofs.cases.passes.Tie as tie
+use Rattle.growth.proofs.cases.local_test.Statement.{statement}
+use Rattle.growth.proofs.cases.local_test.Tie as tie
 
 left-out-requires : tie.Need-left-out-requires
 left-out-requires c κs = let start = c .before .before .before in ground-surrounds _ _ (start .pre .0 .1) (start .pre .1) (start .pre .2)
@@ -19,32 +19,35 @@ edge-free-requires c κs = let start = c .before .before .before .before .before
 
 returns : tie.Need-returns
 returns c =
-    let start = c .before .before .before .before .before .before in
-    c .vertices-free .ensures ∙ case-none (start .pre .0 .1) _ _ _ (start .pre .2) (c .before .before .left-out .ensures) (c .before .match .keys1)
+    let start = c .before .before .before .before .before .before .before in
+    c .unless-free .ensures ∙ case-none (start .pre .0 .1) _ _ _ (start .pre .2) (c .before .before .before .left-out .ensures) (c .before .before .match .keys1) (c .before .vertices-free .ensures)
 
 returns-2 : tie.Need-returns-2
 returns-2 c =
-    let start = c .before .before .before .before .before .before in
-    c .vertex-free .ensures ∙ case-one (start .pre .0 .1) _ _ _ (start .pre .2) (c .before .before .left-out .ensures) (c .before .match .keys2)
+    let start = c .before .before .before .before .before .before .before in
+    c .unless-free2 .ensures ∙ case-one (start .pre .0 .1) _ _ _ (start .pre .2) (c .before .before .before .left-out .ensures) (c .before .before .match .keys2) (c .before .vertex-free .ensures)
 
 returns-3 : tie.Need-returns-3
 returns-3 c =
-    let start = c .before .before .before .before .before .before in
-    c .edge-free .ensures ∙ case-two (start .pre .0 .1) _ _ _ (start .pre .2) (c .before .before .left-out .ensures) (c .before .match .keys3)
+    let start = c .before .before .before .before .before .before .before in
+    c .unless-free3 .ensures ∙ case-two (start .pre .0 .1) _ _ _ (start .pre .2) (c .before .before .before .left-out .ensures) (c .before .before .match .keys3) (c .before .edge-free .ensures)
 
 returns-4 : tie.Need-returns-4
 returns-4 c =
     let start = c .before .before .before .before .before in
     case-more (start .pre .0 .1) _ _ _ (start .pre .2) (c .before .left-out .ensures) (c .match .rest .0 .0 .1) (c .match .rest .0 .1) (c .match .rest .1)
 
-pub passes-spec : {M : Type 1} → statement M
-passes-spec =
+pub local-test-spec : {M : Type 1} → statement M
+local-test-spec =
     tie.close
     (tie.spec
     left-out-requires
     vertices-free-requires
+    (λ c κs. tt)
     vertex-free-requires
+    (λ c κs. tt)
     edge-free-requires
+    (λ c κs. tt)
     returns
     returns-2
     returns-3
