@@ -32,6 +32,13 @@
 //! assert_eq!(lent.triangles[..12], [2, 3, 4, 1, 3, 4, 1, 2, 4, 1, 2, 3]);
 //! assert_eq!(lent.work[16..], [3, 2, 1, 0]);
 //!
+//! // In job B one row is refused at f = 0 (answer 5), and one at f = 2 (7).
+//! let job = std::fs::read(format!("{folder}b.job"))?;
+//! let mut lent = Buffers::zeros(Rooms::exact(12, 7));
+//! let outcome = track::run(&job, lent.lend());
+//! assert_eq!(outcome, Outcome { code: 0, place: 0, taken: 5, triangles: 8 });
+//! assert_eq!(lent.answers, [0, 5, 0, 0, 0, 0, 7]);
+//!
 //! // Enough for every job. Row 3 has a mark that is neither 0 nor 1.
 //! let mut lent = Buffers::filled(Rooms::exact(MOST_ROWS, MOST_PROPOSALS), 9);
 //! let job = std::fs::read(format!("{folder}d.job"))?;
