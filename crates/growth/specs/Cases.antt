@@ -1,5 +1,5 @@
 -- The five cases as the code asks them: by the number of marks across that differ from the row's own.
-use mathlib.Core.Path.{_≡_, sym, ap, ap₂, _∙_}
+use mathlib.Core.Path.{_≡_, refl, sym, ap, ap₂, _∙_}
 use mathlib.Core.Logic.{_≢_}
 use mathlib.Core.Bool.{Bool, true, cond}
 use mathlib.Core.List.{List}
@@ -36,28 +36,22 @@ module _ {rows neighbours : List ℕ} {ids : ℕ} (ground : Ground rows neighbou
   left-out-is = pick-same 4 (between neighbours marks r) (onSkin (tableIn rows) (insideIn marks) r) (λ k m. between-skin ground r k l m marks)
 
   -- the answer, where what the case of f asks for is free or not
-  told : {unhindered : Bool} → unhindered ≡ passes (tableIn rows) (insideIn marks) adding r → cond unhindered 0 (5 + f) ≡ caseAnswer (tableIn rows) (insideIn marks) adding r
-  told e = ap₂ (λ (b : Bool) (n : ℕ). cond b 0 (5 + n)) e (sym f-is) ∙ sym (case-answer (tableIn rows) (insideIn marks) adding r)
+  told : {k : ℕ} {unhindered : Bool} → f ≡ k → unhindered ≡ passes (tableIn rows) (insideIn marks) adding r → cond unhindered 0 (5 + k) ≡ caseAnswer (tableIn rows) (insideIn marks) adding r
+  told e is = ap₂ (λ (b : Bool) (n : ℕ). cond b 0 (5 + n)) is (sym e ∙ sym f-is) ∙ sym (case-answer (tableIn rows) (insideIn marks) adding r)
 
   module _ {unhindered : Bool} where
-    pub case-none : f ≡ 0 → unhindered ≡ all 4 (vertexFree (tableIn rows) (otherSide adding (insideIn marks)) r)
-        → cond unhindered 0 5 ≡ caseAnswer (tableIn rows) (insideIn marks) adding r
+    pub case-none : f ≡ 0 → unhindered ≡ all 4 (vertexFree (tableIn rows) (otherSide adding (insideIn marks)) r) → cond unhindered 0 5 ≡ caseAnswer (tableIn rows) (insideIn marks) adding r
     unfolding passes vertexFree
-    case-none e free-is = ap (λ (n : ℕ). cond unhindered 0 (5 + n)) (sym e) ∙ told (free-is ∙ sym (rw (f-is ∙ e)))
+    case-none e is = told e (is ∙ sym (rw (f-is ∙ e)))
 
-    pub case-one : f ≡ 1 → unhindered ≡ vertexFree (tableIn rows) (otherSide adding (insideIn marks)) r last
-        → cond unhindered 0 6 ≡ caseAnswer (tableIn rows) (insideIn marks) adding r
+    pub case-one : f ≡ 1 → unhindered ≡ vertexFree (tableIn rows) (otherSide adding (insideIn marks)) r last → cond unhindered 0 6 ≡ caseAnswer (tableIn rows) (insideIn marks) adding r
     unfolding passes vertexFree
-    case-one e free-is =
-        ap (λ (n : ℕ). cond unhindered 0 (5 + n)) (sym e)
-        ∙ told (free-is ∙ ap (free (tableIn rows) (otherSide adding (insideIn marks)) r) (sym (counted-one c e .1) ∙ left-out-is) ∙ sym (rw (f-is ∙ e)))
+    case-one e is = told e (is ∙ ap (free (tableIn rows) (otherSide adding (insideIn marks)) r) (sym (counted-one c e .1) ∙ left-out-is) ∙ sym (rw (f-is ∙ e)))
 
     pub case-two : f ≡ 2 → unhindered ≡ free (tableIn rows) (otherSide adding (insideIn marks)) r (pick 4 (between neighbours marks r))
         → cond unhindered 0 7 ≡ caseAnswer (tableIn rows) (insideIn marks) adding r
     unfolding passes
-    case-two e free-is =
-        ap (λ (n : ℕ). cond unhindered 0 (5 + n)) (sym e)
-        ∙ told (free-is ∙ ap (free (tableIn rows) (otherSide adding (insideIn marks)) r) left-out-is ∙ sym (rw (f-is ∙ e)))
+    case-two e is = told e (is ∙ ap (free (tableIn rows) (otherSide adding (insideIn marks)) r) left-out-is ∙ sym (rw (f-is ∙ e)))
 
   pub case-more : f ≢ 0 → f ≢ 1 → f ≢ 2 → 0 ≡ caseAnswer (tableIn rows) (insideIn marks) adding r
-  case-more n₀ n₁ n₂ = told (sym (more-pass (tableIn rows) (insideIn marks) adding r (rw f-is n₀) (rw f-is n₁) (rw f-is n₂)))
+  case-more n₀ n₁ n₂ = told refl (sym (more-pass (tableIn rows) (insideIn marks) adding r (rw f-is n₀) (rw f-is n₁) (rw f-is n₂)))

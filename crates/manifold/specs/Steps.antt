@@ -22,7 +22,7 @@ use Rattle.rules.specs.Laws.Proposals.{answer-is, answers-append, final-append}
 use Rattle.rules.specs.Laws.First.{conditionAt}
 use Rattle.rules.specs.Reading.Rows.{Holds, holds-reads}
 use Rattle.rules.specs.Reading.Closed.{Closed}
-use Rattle.rules.specs.Reading.Answers.{answerConditions, other-reads, answer-exactly, taken-exactly}
+use Rattle.rules.specs.Reading.Answers.{answerConditions, other-side-reads, other-reads, answer-exactly, taken-exactly}
 use Rattle.manifold.specs.Facet.{FlipAt, not-differs, differs-not}
 use Rattle.manifold.specs.Decide.{cases-decide}
 
@@ -81,11 +81,6 @@ passes-earlier t marks p = (forth, back)
 
 -- ---- answers by the five cases
 
--- a row that is not there already
-not-there : (adding here : Bool) → here ≡ not adding → cond adding here (not here) ≡ false
-not-there true here e = e
-not-there false here e = ap not e
-
 module _ (t : Table) (marks : List ℕ) (p : Proposal) where
   -- a taken proposal passes all tests, and one that the five cases refuse passes those before
   pub taken-earlier : answer t marks p ≡ 0 → PassesEarlier t marks p
@@ -98,7 +93,6 @@ module _ (t : Table) (marks : List ℕ) (p : Proposal) where
 
   module _ (off : PassesEarlier t marks p) where
     by-cases : answer t marks p ≡ caseAnswer t (insideIn marks) (adds p) (p .row)
-    unfolding otherSide
     by-cases =
         let x = passes-earlier t marks p .0 off in
         answer-is t marks p
@@ -106,7 +100,8 @@ module _ (t : Table) (marks : List ℕ) (p : Proposal) where
           lt-ltb (p .row) (t .rows) (x .row-below),
           or-reads (eqb-reads (p .kind) 1) (eqb-reads (p .kind) 2) .1 (x .kind-known),
           is-false (holds t (p .row) 0) (λ e. x .finite (holds-reads t (p .row) 0 .0 e)),
-          not-there (adds p) (insideIn marks (p .row)) (x .this-side),
+          is-false (otherSide (adds p) (insideIn marks) (p .row))
+              (λ e. not-differs (adds p) (adds p) refl (sym (x .this-side) ∙ other-side-reads (adds p) (insideIn marks) (p .row) .0 e)),
         )
 
     taken-passes : (answer t marks p ≡ 0) ↔ (passes t (insideIn marks) (adds p) (p .row) ≡ true)

@@ -110,7 +110,7 @@ refuses-map t r skin other (suc (suc (suc f))) x = absurd x
 
 -- ---- the computed test says so
 
-other-side-reads : (adding : Bool) (inside : ℕ → Bool) (s : ℕ) → (otherSide adding inside s ≡ true) ↔ (inside s ≡ adding)
+pub other-side-reads : (adding : Bool) (inside : ℕ → Bool) (s : ℕ) → (otherSide adding inside s ≡ true) ↔ (inside s ≡ adding)
 unfolding otherSide
 other-side-reads true inside s = (λ e. e, λ e. e)
 other-side-reads false inside s = (λ e. not-true (inside s) e, λ e. ap not e)
