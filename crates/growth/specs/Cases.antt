@@ -1,10 +1,10 @@
 -- The five cases as the code asks them: by the number of marks across that differ from the row's own.
 use mathlib.Core.Path.{_≡_, refl, sym, ap, ap₂, _∙_}
 use mathlib.Core.Logic.{_≢_}
-use mathlib.Core.Bool.{Bool, true, cond}
+use mathlib.Core.Bool.{Bool, cond}
 use mathlib.Core.List.{List}
 use Prim.Native.Nat.{ℕ, _+_, _<_}
-use Rattle.rules.specs.Below.{all, count, pick}
+use Rattle.rules.specs.Below.{all, pick}
 use Rattle.rules.specs.Skin.{onSkin}
 use Rattle.rules.specs.Cases.{otherSide, free, trianglesOnSkin, passes, caseAnswer}
 use Rattle.rules.specs.Proposals.{insideIn}
