@@ -1,4 +1,4 @@
--- What document 01 means, from the bottom up, in its words, each idea in one place:
+-- What document 01 means, with request (i) of document 02, from the bottom up, in their words, each idea in one place:
 --     Below       numbers below a bound: lowest, any, all, count, pick, tabulate
 --     Words       numbers in bytes, low byte first
 --     Shape       corners, triangles and edges of a row, by position
@@ -6,7 +6,7 @@
 --     Table       rows, neighbours, the triangle, edge and vertex rules
 --     Skin        skin, far edges, one ring, clean, the skin list
 --     First       first match decides
---     Cases       the five cases
+--     Cases       the five cases, and the answer of each that refuses
 --     Proposals   answers, and the marks after them
 --     Job         the file, the twelve codes, the lent buffers, the run
 --     Made        job files made from their parts
