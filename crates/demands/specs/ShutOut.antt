@@ -1,7 +1,7 @@
 -- Versions that the demands shut out: by document 01's own job A, and, where the case of a refusal matters, by removes on table D.
 use mathlib.Core.Path.{_≡_, refl, sym, ap, _∙_}
 use mathlib.Core.Logic.{_⊎_, ⊎-elim, _≢_}
-use mathlib.Core.List.{List, [], _∷_, map}
+use mathlib.Core.List.{List, [], _∷_}
 use Prim.Native.Nat.{ℕ, _+_, _<_}
 use native.Mathlib.Omega.{arith}
 use native.Mathlib.Nat.{not-suc-le-zero}
@@ -12,9 +12,9 @@ use Rattle.rules.specs.Cases.{trianglesOnSkin}
 use Rattle.rules.specs.Proposals.{insideIn, RefusedByCases, taken}
 use Rattle.rules.specs.Job.{track, headerOf, jobOf, standing, finalOf, skinWith, Lent, Result, run}
 use Rattle.rules.specs.Reading.Codes.{code-exactly}
-use Rattle.rules.specs.Worked.{ran, known, lend}
-use Rattle.rules.specs.Worked.Document.{jobA, documentJobs, document-jobs}
-use Rattle.rules.specs.Worked.Ours.{removesD, answerJobs, answer-jobs}
+use Rattle.rules.specs.Worked.{Worked, ran}
+use Rattle.rules.specs.Worked.Document.{wholeA, document-jobs}
+use Rattle.rules.specs.Worked.Ours.{removesD, answer-jobs}
 use Rattle.track.specs.declared.Outcome.{Outcome}
 use Rattle.track.specs.Outcomes.{result}
 use Rattle.demands.specs.Demands.{proposalAt, Demands}
@@ -26,39 +26,35 @@ pub record Version : Type 0 where
   pub leaves : List ℕ → Lent → Lent
   pub keeps : (job : List ℕ) (before : Lent) → Demands job before (gives job before) (leaves job before)
 
+-- ---- two jobs with known results, their buffers one longer than needed and filled with 9s
+
 first : Result → List Result → Result
 first d [] = d
 first d (r ∷ rs) = r
 
--- job A, its buffers one longer than needed and filled with 9s
-abbrev lentA : Lent
-lentA = lend 5 7
+-- that a run of it gives its result
+abbrev Runs : Worked → Type 0
+Runs w = run track (w .bytes) (w .lent) ≡ w .result
 
-is-a : (d : Result) → run track jobA lentA ≡ first d (map known documentJobs)
+runs-a : Runs wholeA
 unfolding ran first
-is-a d = ap (first d) document-jobs
+runs-a = ap (first (wholeA .result)) document-jobs
 
-seven : headerOf jobA .proposals ≡ 7
+seven : headerOf (wholeA .bytes) .proposals ≡ 7
 unfolding headerOf word
 seven = refl
 
--- the removes on table D, with buffers of the same kind
-abbrev jobD : List ℕ
-jobD = removesD .bytes
-
-abbrev lentD : Lent
-lentD = removesD .lent
-
-is-d : (d : Result) → run track jobD lentD ≡ first d (map known answerJobs)
+-- removes on table D
+runs-d : Runs removesD
 unfolding ran first
-is-d d = ap (first d) answer-jobs
+runs-d = ap (first (removesD .result)) answer-jobs
 
-ten : headerOf jobD .proposals ≡ 10
+ten : headerOf (removesD .bytes) .proposals ≡ 10
 unfolding headerOf word
 ten = refl
 
 -- before its second proposal no triangle of the row that its third names is on the skin
-none-before : trianglesOnSkin (jobOf track jobD .table) (insideIn (standing (jobOf track jobD) 1)) (proposalAt (jobOf track jobD) 2 .row) ≡ 0
+none-before : trianglesOnSkin (jobOf track (removesD .bytes) .table) (insideIn (standing (jobOf track (removesD .bytes)) 1)) (proposalAt (jobOf track (removesD .bytes)) 2 .row) ≡ 0
 unfolding ran
 none-before = refl
 
@@ -70,46 +66,45 @@ module _ (v : Version) where
   is-run : (job : List ℕ) (before : Lent) → result (v .gives job before) (v .leaves job before) ≡ run track job before
   is-run job before = say-all job before (v .keeps job before)
 
-  on-a : (d : Result) → result (v .gives jobA lentA) (v .leaves jobA lentA) ≡ first d (map known documentJobs)
-  on-a d = is-run jobA lentA ∙ is-a d
+  -- what the version gives of a job with a known result
+  module _ (w : Worked) (runs : Runs w) where
+    on : result (v .gives (w .bytes) (w .lent)) (v .leaves (w .bytes) (w .lent)) ≡ w .result
+    on = is-run (w .bytes) (w .lent) ∙ runs
 
-  abbrev a : Result
-  a = result (v .gives jobA lentA) (v .leaves jobA lentA)
+    code-on : v .gives (w .bytes) (w .lent) .code ≡ w .result .code
+    code-on = ap (λ (r : Result). r .code) on
 
-  accepts-a : v .gives jobA lentA .code ≡ 0
-  unfolding first
-  accepts-a = ap (λ (r : Result). r .code) (on-a a)
-
-  answers-a : (k : ℕ) → getD (v .leaves jobA lentA .answers) k 0 ≡ getD (0 ∷ 4 ∷ 3 ∷ 0 ∷ 2 ∷ 1 ∷ 0 ∷ 9 ∷ []) k 0
-  unfolding first
-  answers-a k = ap (λ (r : Result). getD (r .left .answers) k 0) (on-a a)
+    answer-on : (k : ℕ) → getD (v .leaves (w .bytes) (w .lent) .answers) k 0 ≡ getD (w .result .left .answers) k 0
+    answer-on k = ap (λ (r : Result). getD (r .left .answers) k 0) on
 
   -- one that refuses every job: A is run
   pub not-all-refused : ((job : List ℕ) (before : Lent) → v .gives job before .code ≢ 0) → ⊥
-  not-all-refused never = never jobA lentA accepts-a
+  not-all-refused never = never (wholeA .bytes) (wholeA .lent) (code-on wholeA runs-a)
 
   -- one that answers 5, 6 or 7 to every proposal: A's first is taken
   pub not-all-by-cases : ((job : List ℕ) (before : Lent) → v .gives job before .code ≡ 0 → (k : ℕ) → k < headerOf job .proposals → RefusedByCases (getD (v .leaves job before .answers) k 0)) → ⊥
-  not-all-by-cases refuses = omega (arith, answers-a 0, refuses jobA lentA accepts-a 0 (rw seven (lit< tt)) .0)
+  not-all-by-cases refuses = omega (arith, answer-on wholeA runs-a 0, refuses (wholeA .bytes) (wholeA .lent) (code-on wholeA runs-a) 0 (rw seven (lit< tt)) .0)
 
   -- one giving the same output for all jobs: A is run, and no bytes at all are refused
   pub not-the-same : ((job other : List ℕ) (before : Lent) → v .gives job before ≡ v .gives other before) → ⊥
   not-the-same same =
-      let empty = ap (λ (r : Result). r .code) (is-run [] lentA) ∙ empty-job lentA in
-      let e = sym empty ∙ ap (λ (o : Outcome). o .code) (same [] jobA lentA) ∙ accepts-a in
+      let empty = ap (λ (r : Result). r .code) (is-run [] (wholeA .lent)) ∙ empty-job (wholeA .lent) in
+      let e = sym empty ∙ ap (λ (o : Outcome). o .code) (same [] (wholeA .bytes) (wholeA .lent)) ∙ code-on wholeA runs-a in
       omega (arith, e)
 
   -- one that touches nothing: A's final marks differ from what was lent
   pub not-untouched : ((job : List ℕ) (before : Lent) → v .leaves job before ≡ before) → ⊥
-  unfolding first
   not-untouched same =
-      let e : _≡_ {A = ℕ} 9 0 = ap (λ (l : Lent). getD (l .finalMarks) 0 0) (sym (same jobA lentA)) ∙ ap (λ (r : Result). getD (r .left .finalMarks) 0 0) (on-a a) in
+      let e : _≡_ {A = ℕ} 9 0 = ap (λ (l : Lent). getD (l .finalMarks) 0 0) (sym (same (wholeA .bytes) (wholeA .lent))) ∙ ap (λ (r : Result). getD (r .left .finalMarks) 0 0) (on wholeA runs-a) in
       omega (arith, e)
 
   -- one that judges the first proposal and copies its answer onward: A's second gets 4
   pub not-copied : ((job : List ℕ) (before : Lent) → v .gives job before .code ≡ 0 → (k : ℕ) → k < headerOf job .proposals
       → getD (v .leaves job before .answers) k 0 ≡ getD (v .leaves job before .answers) 0 0) → ⊥
-  not-copied copies = let e = sym (answers-a 1) ∙ copies jobA lentA accepts-a 1 (rw seven (lit< tt)) ∙ answers-a 0 in omega (arith, e)
+  not-copied copies =
+      let answer = answer-on wholeA runs-a in
+      let e = sym (answer 1) ∙ copies (wholeA .bytes) (wholeA .lent) (code-on wholeA runs-a) 1 (rw seven (lit< tt)) ∙ answer 0 in
+      omega (arith, e)
 
   -- one that invents its counts, for whatever job: both are fixed by what is left
   pub not-invented : (job : List ℕ) (before : Lent) → v .gives job before .code ≡ 0
@@ -121,26 +116,12 @@ module _ (v : Version) where
 
   -- ---- the case of a refusal
 
-  abbrev d : Result
-  d = result (v .gives jobD lentD) (v .leaves jobD lentD)
-
-  on-d : d ≡ first d (map known answerJobs)
-  on-d = is-run jobD lentD ∙ is-d d
-
-  accepts-d : v .gives jobD lentD .code ≡ 0
-  unfolding first
-  accepts-d = ap (λ (r : Result). r .code) on-d
-
-  answers-d : (k : ℕ) → getD (v .leaves jobD lentD .answers) k 0 ≡ getD (removesD .result .left .answers) k 0
-  unfolding first
-  answers-d k = ap (λ (r : Result). getD (r .left .answers) k 0) on-d
-
   -- one that gives one answer for all cases: D's first gets 5, and its third 6
   pub not-one-answer : (a : ℕ) → ((job : List ℕ) (before : Lent) → v .gives job before .code ≡ 0 → (k : ℕ) → k < headerOf job .proposals
       → RefusedByCases (getD (v .leaves job before .answers) k 0) → getD (v .leaves job before .answers) k 0 ≡ a) → ⊥
   not-one-answer a one =
       let given : (k : ℕ) → k < 10 → RefusedByCases (getD (removesD .result .left .answers) k 0) → getD (removesD .result .left .answers) k 0 ≡ a =
-      λ k l. rw (← answers-d k) (one jobD lentD accepts-d k (rw ten l)) in
+      λ k l. rw (← answer-on removesD runs-d k) (one (removesD .bytes) (removesD .lent) (code-on removesD runs-d) k (rw ten l)) in
       let e = given 0 (lit< tt) (lit≤ tt, lit≤ tt) ∙ sym (given 2 (lit< tt) (lit≤ tt, lit≤ tt)) in
       omega (arith, e)
 
@@ -149,5 +130,6 @@ module _ (v : Version) where
       → getD (v .leaves job before .answers) k 0 ≡ 0 → RefusedByCases (getD (v .leaves job before .answers) (k + 1) 0)
       → getD (v .leaves job before .answers) (k + 1) 0 ≡ 5 + trianglesOnSkin (jobOf track job .table) (insideIn (standing (jobOf track job) k)) (proposalAt (jobOf track job) (k + 1) .row)) → ⊥
   not-the-case-before stale =
-      let e = sym (answers-d 2) ∙ stale jobD lentD accepts-d 1 (rw ten (lit< tt)) (answers-d 1) (rw (answers-d 2) (lit≤ tt, lit≤ tt)) in
+      let answer = answer-on removesD runs-d in
+      let e = sym (answer 2) ∙ stale (removesD .bytes) (removesD .lent) (code-on removesD runs-d) 1 (rw ten (lit< tt)) (answer 1) (rw (answer 2) (lit≤ tt, lit≤ tt)) in
       omega (arith, e, none-before)

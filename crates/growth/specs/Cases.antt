@@ -4,6 +4,7 @@ use mathlib.Core.Logic.{_≢_}
 use mathlib.Core.Bool.{Bool, cond}
 use mathlib.Core.List.{List}
 use Prim.Native.Nat.{ℕ, _+_, _<_}
+use native.Mathlib.Omega.{arith}
 use Rattle.rules.specs.Below.{all, pick}
 use Rattle.rules.specs.Skin.{onSkin}
 use Rattle.rules.specs.Cases.{otherSide, free, trianglesOnSkin, passes, caseAnswer}
@@ -54,4 +55,4 @@ module _ {rows neighbours : List ℕ} {ids : ℕ} (ground : Ground rows neighbou
     case-two e is = told e (is ∙ ap (free (tableIn rows) (otherSide adding (insideIn marks)) r) left-out-is ∙ sym (rw (f-is ∙ e)))
 
   pub case-more : f ≢ 0 → f ≢ 1 → f ≢ 2 → 0 ≡ caseAnswer (tableIn rows) (insideIn marks) adding r
-  case-more n₀ n₁ n₂ = told refl (sym (more-pass (tableIn rows) (insideIn marks) adding r (rw f-is n₀) (rw f-is n₁) (rw f-is n₂)))
+  case-more n₀ n₁ n₂ = told refl (sym (more-pass (tableIn rows) (insideIn marks) adding r (omega (arith, f-is, n₀, n₁, n₂))))

@@ -19,6 +19,7 @@ ghost use Rattle.table.specs.Ground.{ClosedGround};
 ghost use Rattle.growth.specs.Cases.{answerOf};
 ghost use Rattle.growth.specs.Answers.{proposal};
 
+// Document 02's answer of each case.
 fn answer_of(local: Local) -> u8
     ensures { λ r. ⌜ r ≡ answerOf local ⌝ }
 {

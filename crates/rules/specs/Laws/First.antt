@@ -3,7 +3,7 @@ use mathlib.Core.Path.{_≡_, refl, sym, ap, _∙_}
 use mathlib.Core.Logic.{_⊎_, inl, inr, ⊎-elim, _↔_, _≢_}
 use mathlib.Core.Bool.{Bool, true, false, cond, true≢false}
 use mathlib.Core.Option.{Option, some, none}
-use mathlib.Core.List.{List, [], _∷_, _++_}
+use mathlib.Core.List.{List, [], _∷_, _++_, map}
 use Prim.Native.Nat.{ℕ, zero, suc, _+_, _≤_, _<_, suc-le-suc}
 use native.Mathlib.Nat.{le-refl, le-of-suc-le-suc, not-suc-le-zero, zero-lt-suc, add-zero}
 use native.Mathlib.Omega.{arith}
@@ -209,10 +209,23 @@ given-none true e = let z : _≡_ {A = ℕ} 0 1 = cc in absurd (omega arith)
 given-none false e = refl
 
 -- its code, or that of the tests behind it
-pub given-code : (code : ℕ) (b : Bool) (tests : List Test) → firstMatch code ((λ _. given b) ∷ tests) .code ≡ cond b code (firstMatch (suc code) tests .code)
+given-code : (code : ℕ) (b : Bool) (tests : List Test) → firstMatch code ((λ _. given b) ∷ tests) .code ≡ cond b code (firstMatch (suc code) tests .code)
 unfolding given found
 given-code code true tests = ap (λ (v : Verdict). v .code) (match-here code (λ _. given true) tests 0 refl)
 given-code code false tests = ap (λ (v : Verdict). v .code) (match-later code (λ _. given false) tests refl)
+
+-- the number of the first of these that is true, counted from `code`, or else `other`
+abbrev pub firstTrue : ℕ → List Bool → ℕ → ℕ
+firstTrue code [] other = other
+firstTrue code (b ∷ bs) other = cond b code (firstTrue (suc code) bs other)
+
+-- tests whose places are 0, with others behind them
+pub given-codes : (code : ℕ) (bs : List Bool) (tests : List Test)
+    → firstMatch code (map (λ b _. given b) bs ++ tests) .code ≡ firstTrue code bs (firstMatch (code + length bs) tests .code)
+given-codes code [] tests = ap (λ (n : ℕ). firstMatch n tests .code) (sym (add-zero code))
+given-codes code (b ∷ bs) tests =
+    given-code code b _
+    ∙ ap (λ (n : ℕ). cond b code n) (given-codes (suc code) bs tests ∙ ap (λ (n : ℕ). firstTrue (suc code) bs (firstMatch n tests .code)) (omega arith))
 
 -- ---- tests one group after the other
 

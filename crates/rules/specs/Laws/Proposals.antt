@@ -14,7 +14,7 @@ use Rattle.rules.specs.Cases.{otherSide, caseAnswer}
 use Rattle.rules.specs.Proposals.{Proposal, insideIn, adds, answerTests, answer, marksAfter, answersTo, finalMarks, taken}
 use Rattle.rules.specs.Laws.Truth.{true-or-false}
 use Rattle.rules.specs.Laws.Count.{bit-small}
-use Rattle.rules.specs.Laws.First.{given-code}
+use Rattle.rules.specs.Laws.First.{given-codes}
 
 module _ (t : Table) (marks : List ℕ) (p : Proposal) where
   -- the tests 1 to 4, and behind them the five cases
@@ -22,11 +22,7 @@ module _ (t : Table) (marks : List ℕ) (p : Proposal) where
       ≡ cond (not (ltb (p .row) (t .rows))) 1 (cond (not (eqb (p .kind) 1 || eqb (p .kind) 2)) 2 (cond (holds t (p .row) 0) 3
       (cond (otherSide (adds p) (insideIn marks) (p .row)) 4 (caseAnswer t (insideIn marks) (adds p) (p .row)))))
   unfolding answer answerTests outer
-  answer-is =
-      given-code 1 (not (ltb (p .row) (t .rows))) _
-      ∙ ap (λ (n : ℕ). cond (not (ltb (p .row) (t .rows))) 1 n) (given-code 2 (not (eqb (p .kind) 1 || eqb (p .kind) 2)) _
-      ∙ ap (λ (n : ℕ). cond (not (eqb (p .kind) 1 || eqb (p .kind) 2)) 2 n) (given-code 3 (holds t (p .row) 0) _
-      ∙ ap (λ (n : ℕ). cond (holds t (p .row) 0) 3 n) (given-code 4 (otherSide (adds p) (insideIn marks) (p .row)) _)))
+  answer-is = given-codes 1 (not (ltb (p .row) (t .rows)) ∷ not (eqb (p .kind) 1 || eqb (p .kind) 2) ∷ holds t (p .row) 0 ∷ otherSide (adds p) (insideIn marks) (p .row) ∷ []) _
 
 module _ (t : Table) where
   pub final-append : (marks : List ℕ) (xs ys : List Proposal) → finalMarks t marks (xs ++ ys) ≡ finalMarks t (finalMarks t marks xs) ys

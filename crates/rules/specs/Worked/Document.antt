@@ -3,20 +3,27 @@ use Prim.Native.Nat.{ℕ}
 use mathlib.Core.Path.{_≡_, refl}
 use mathlib.Core.List.{List, [], _∷_, _++_, map}
 use lib.ListN.{take, set, replicate}
+use Rattle.rules.specs.Job.{Result}
 use Rattle.rules.specs.Worked.{header, job, lend, done, Worked, ran, known, accepts, refuses, keeps, row, three, add, remove, proposal, tableA, tableB, marked}
 
 abbrev pub proposalsA : List ℕ
 proposalsA = add 4 ++ add 4 ++ add 0 ++ remove 4 ++ proposal 4 3 ++ add 5 ++ add 4
 
-abbrev pub documentJobs : List Worked
-documentJobs =
-    -- (a) A whole
-    accepts 5 tableA (marked 5 []) proposalsA
-    (done 3 4
+abbrev pub resultA : Result
+resultA =
+    done 3 4
     (0 ∷ 4 ∷ 3 ∷ 0 ∷ 2 ∷ 1 ∷ 0 ∷ [])
     (marked 5 (4 ∷ []))
     (three 2 3 4 ++ three 1 3 4 ++ three 1 2 4 ++ three 1 2 3)
-    (row 4 3 2 1 ++ row 4 3 2 0 ++ row 4 3 1 0 ++ row 4 2 1 0 ++ row 3 2 1 0))
+    (row 4 3 2 1 ++ row 4 3 2 0 ++ row 4 3 1 0 ++ row 4 2 1 0 ++ row 3 2 1 0)
+
+abbrev pub wholeA : Worked
+wholeA = accepts 5 tableA (marked 5 []) proposalsA resultA
+
+abbrev pub documentJobs : List Worked
+documentJobs =
+    -- (a) A whole
+    wholeA
     -- (b) B's answers, as document 02 (i) has them
     ∷ accepts 7 tableB (marked 12 []) (add 8 ++ add 11 ++ add 10 ++ add 11 ++ add 9 ++ remove 8 ++ remove 11)
     (done 5 8
@@ -74,12 +81,7 @@ comparedJobs =
     -- A cut by a byte
     ∷ keeps (take 172 jobA) (lend 5 7) 3
     -- V 6 in A still runs
-    ∷ accepts 6 tableA (marked 5 []) proposalsA
-    (done 3 4
-    (0 ∷ 4 ∷ 3 ∷ 0 ∷ 2 ∷ 1 ∷ 0 ∷ [])
-    (marked 5 (4 ∷ []))
-    (three 2 3 4 ++ three 1 3 4 ++ three 1 2 4 ++ three 1 2 3)
-    (row 4 3 2 1 ++ row 4 3 2 0 ++ row 4 3 1 0 ++ row 4 2 1 0 ++ row 3 2 1 0))
+    ∷ accepts 6 tableA (marked 5 []) proposalsA resultA
     -- work one word short
     ∷ keeps jobA (record { answers = replicate 7 9; finalMarks = replicate 5 9; triangles = replicate 30 9; work = replicate 19 9 }) 4
     ∷ []
