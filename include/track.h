@@ -25,7 +25,8 @@
  *
  * The ids of a row rise strictly and are below V; the rows rise strictly in
  * dictionary order. Id 0 is the infinite vertex; a row that holds it is an outer
- * row. The skin is the triangles that are in exactly one inside row.
+ * row. Outer rows are all outside or all inside. The skin is the triangles that
+ * are in exactly one inside row; none of them holds id 0.
  *
  * The limits of V, N and P: */
 #define TRACK_FEWEST_IDS 5
@@ -95,8 +96,9 @@ enum track_code {
     TRACK_CODE_VERTEX = 9,   /* the same for a vertex */
     TRACK_CODE_MARK = 10,    /* a mark that is not 0 or 1; place: the first such
                                 row */
-    TRACK_CODE_OUTER = 11,   /* an outer row marked inside; place: the first
-                                such row */
+    TRACK_CODE_OUTER = 11,   /* outer rows with unlike marks; place: the lowest
+                                outer row whose mark differs from that of the
+                                lowest outer row */
     TRACK_CODE_RING = 12     /* the starting skin is not clean; place: the
                                 lowest skin vertex whose far edges do not form
                                 one ring */

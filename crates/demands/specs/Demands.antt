@@ -1,5 +1,5 @@
--- The three demands, whole, of one run: the bytes of a job file, the four buffers as lent, what was returned, and the buffers as left.
--- `demands::run`, which is `track::run`, has them for its contract.
+-- The three demands, whole, of one run: the bytes of a job file, the four buffers as lent, what was returned, and the buffers as left;
+-- and what document 02 promises beside them. `demands::run`, which is `track::run`, has them for its contract.
 use mathlib.Core.Path.{_≡_}
 use mathlib.Core.Logic.{_↔_, _≢_}
 use mathlib.Core.List.{List, _++_, flatten}
@@ -13,7 +13,8 @@ use Rattle.rules.specs.Laws.Count.{TheOther}
 use Rattle.rules.specs.Laws.Lists.{Among, Distinct}
 use Rattle.rules.specs.Laws.First.{conditionAt, FirstOf}
 use Rattle.rules.specs.Reading.Neighbours.{Side}
-use Rattle.rules.specs.Reading.Skin.{Inside}
+use Rattle.rules.specs.Reading.Skin.{Inside, BetweenSides}
+use Rattle.rules.specs.Reading.Outer.{Outer, OuterAlike}
 use Rattle.rules.specs.Reading.Ring.{Clean}
 use Rattle.rules.specs.Reading.Answers.{TrianglesOnSkin, answerConditions}
 use Rattle.rules.specs.Reading.Codes.{RoomShort, jobConditions}
@@ -135,7 +136,18 @@ module _ (bytes : List ℕ) (before : Lent) (o : Outcome) (after : Lent) where
     pub cut : (k : ℕ) → k ≤ proposals → (lent : Lent) → (RoomShort track (withProposals (headerOf bytes) k) lent → ⊥)
         → (run track (cutTo track k bytes) lent .code ≡ 0) × (run track (cutTo track k bytes) lent .left .finalMarks ≡ written (standing job k) (lent .finalMarks))
 
+  -- Document 02 (ii): the skin of an accepted job is finite. At every step its outer rows are alike, all inside or all outside; so no skin
+  -- triangle holds id 0, and of the two rows at a skin triangle, one inside and one outside, at most one is outer.
+  pub record FiniteSkin : Type 0 where
+    -- after the first k proposals, for every k
+    pub outer-alike : (k : ℕ) → OuterAlike (job .table) (standing job k)
+    pub no-infinite-vertex : (k : ℕ) (ids : List ℕ) → SideTriangle (job .table) (Inside (standing job k)) ids → Among 0 ids → ⊥
+    pub one-outer : (k r c : ℕ) (b : BetweenSides (job .table) (Inside (standing job k)) r c) → Outer (job .table) (b .in-row) → Outer (job .table) (b .out-row) → ⊥
+    -- of the ids that are left at the front of triangles none is 0
+    pub listed-finite : Among 0 (take (3 * o .triangles) (after .triangles)) → ⊥
+
   pub record Demands : Type 0 where
     pub one : Demand1
     pub two : o .code ≡ 0 → Demand2
     pub three : o .code ≡ 0 → Demand3
+    pub finite : o .code ≡ 0 → FiniteSkin

@@ -16,10 +16,16 @@ use Rattle.demands.specs.Demands.{Demands}
 use Rattle.demands.specs.Given.{demand-1}
 use Rattle.demands.specs.Grown.{demand-2}
 use Rattle.demands.specs.Rings.{demand-3}
+use Rattle.demands.specs.Finite.{skin-finite}
 
 module _ (bytes : List ℕ) (before : Lent) where
   pub kept : {o : Outcome} {after : Lent} → result o after ≡ run track bytes before → Demands bytes before o after
-  kept ran = record { one = demand-1 bytes before ran; two = demand-2 bytes before ran; three = demand-3 bytes before ran }
+  kept ran = record {
+    one = demand-1 bytes before ran;
+    two = demand-2 bytes before ran;
+    three = demand-3 bytes before ran;
+    finite = skin-finite bytes before ran;
+  }
 
   -- any two results that keep them are equal
   module _ {o p : Outcome} {after left : Lent} (d : Demands bytes before o after) (e : Demands bytes before p left) where

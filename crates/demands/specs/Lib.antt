@@ -1,15 +1,17 @@
--- The three demands over `track::run` itself.
---     Demands  the page to read: the three demands, of one run
+-- The three demands, and what document 02 promises beside them, over `track::run` itself.
+--     Demands  the page to read: all of it, of one run
 --     Given    demand 1 is kept
 --     Grown    demand 2 is kept
 --     Rings    demand 3 is kept
---     Kept     all three follow from the contract of `track::run`, and say all that it says
+--     Finite   document 02 (ii) is kept: the skin is finite
+--     Kept     all of it follows from the contract of `track::run`, and says all that it says
 --     Settled  each public call leaves one possible result
 --     ShutOut  versions that the demands shut out
 pub mod Demands
 pub mod Given
 pub mod Grown
 pub mod Rings
+pub mod Finite
 pub mod Kept
 pub mod Settled
 pub mod ShutOut

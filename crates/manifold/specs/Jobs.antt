@@ -1,5 +1,5 @@
 -- Demand 3 for accepted jobs: those that `rules`' run gives code 0, whatever is lent.
-use mathlib.Core.Path.{_≡_, sym, _∙_}
+use mathlib.Core.Path.{_≡_, _∙_}
 use mathlib.Core.Logic.{_↔_}
 use mathlib.Core.Bool.{true, false}
 use mathlib.Core.List.{List}
@@ -19,9 +19,10 @@ use Rattle.rules.specs.Laws.Job.{job-corners, job-rows, job-answers}
 use Rattle.rules.specs.Laws.Made.{cut-header, cut-laid, cut-job, remade-header, remade-laid, remade-job}
 use Rattle.rules.specs.Reading.Closed.{Closed}
 use Rattle.rules.specs.Reading.Skin.{inside-reads}
+use Rattle.rules.specs.Reading.Outer.{OuterAlike}
 use Rattle.rules.specs.Reading.Ring.{clean-plain}
 use Rattle.rules.specs.Reading.Codes.{WithinLimits, LaidOut, RoomShort, marks-fit, run-as, sections-passed, accepted-closed, accepted-marks, accepted-outer, accepted-clean, accepted-header, accepted-length}
-use Rattle.manifold.specs.Steps.{PassesEarlier, flipped, Marks, AllTaken, undoing, undoing-length, taken-known, outer-kept, five-cases, every-step, backwards, all-steps}
+use Rattle.manifold.specs.Steps.{PassesEarlier, flipped, Marks, AllTaken, undoing, undoing-length, taken-known, alike-kept, five-cases, every-step, backwards, all-steps}
 
 -- After each proposal, and before the first, the far edges at each skin corner form one single ring.
 abbrev pub EveryStep : Job → Type 0
@@ -39,6 +40,10 @@ CasesDecide job = (k : ℕ) (p : Proposal) → PassesEarlier (job .table) (stand
 -- The taken proposals, run backwards with add and remove exchanged, are all taken and bring back the start.
 abbrev pub Backwards : Job → Type 0
 Backwards job = AllTaken (job .table) (finalOf job) (undoing (answersOf job) (job .proposals)) (job .marks)
+
+-- At each step the outer rows are alike, all inside or all outside.
+abbrev pub AlikeSteps : Job → Type 0
+AlikeSteps job = (k : ℕ) → OuterAlike (job .table) (standing job k)
 
 module _ (f : Form) (bytes : List ℕ) (lent : Lent) (corners : f .corners ≡ 4) (ran : run f bytes lent .code ≡ 0) where
   abbrev job : Job
@@ -63,6 +68,9 @@ module _ (f : Form) (bytes : List ℕ) (lent : Lent) (corners : f .corners ≡ 4
   job-five-cases k p off =
       let (m, e) = all-steps (job .table) four closed (job .marks) start clean-start (take k (job .proposals)) in
       five-cases (job .table) four closed (standing job k) m e p off
+
+  pub job-alike : AlikeSteps (jobOf f bytes)
+  job-alike k = alike-kept (job .table) (job .marks) (take k (job .proposals)) (accepted-outer f bytes lent ran)
 
   pub job-backwards : Backwards (jobOf f bytes)
   job-backwards = backwards (job .table) four closed (job .marks) start clean-start (job .proposals)
@@ -112,7 +120,7 @@ module _ (f : Form) (bytes : List ℕ) (lent : Lent) (corners : f .corners ≡ 4
           let passed = match-parts 5 (zero-lt-suc 4) (tableTests t (job .ids)) _ (sections-passed f bytes lent ran) .0 in
           match-both 5 (zero-lt-suc 4) (tableTests t (job .ids)) _ passed
           (marks-fit t (job .ids) four (finalOf job) closed (final .0 .binary)
-          (λ r l h i. accepted-outer f bytes lent ran r l h (sym (outer-kept t (job .marks) (job .proposals) r h) ∙ i))
+          (alike-kept t (job .marks) (job .proposals) (accepted-outer f bytes lent ran))
           (clean-plain t four (insideIn (finalOf job)) (inside-reads (finalOf job)) (job .ids) (closed .paired) .0 (final .1)))
 
       pub undone-run : run f (remade f (finalOf job) (undoing (answersOf job) (job .proposals)) bytes) buffers

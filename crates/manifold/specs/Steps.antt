@@ -22,6 +22,7 @@ use Rattle.rules.specs.Laws.Proposals.{answer-is, answers-append, final-append}
 use Rattle.rules.specs.Laws.First.{conditionAt}
 use Rattle.rules.specs.Reading.Rows.{Holds, holds-reads}
 use Rattle.rules.specs.Reading.Closed.{Closed}
+use Rattle.rules.specs.Reading.Outer.{OuterAlike}
 use Rattle.rules.specs.Reading.Answers.{answerConditions, other-side-reads, other-reads, answer-exactly, taken-exactly}
 use Rattle.manifold.specs.Facet.{FlipAt, not-differs, differs-not}
 use Rattle.manifold.specs.Decide.{cases-decide}
@@ -134,6 +135,10 @@ pub outer-kept : (t : Table) (marks : List ℕ) (ps : List Proposal) (r : ℕ) �
 unfolding finalMarks
 outer-kept t marks [] r outer = refl
 outer-kept t marks (p ∷ ps) r outer = outer-kept t (marksAfter t marks p) ps r outer ∙ outer-stays t marks p r outer
+
+-- so outer rows that are alike stay so
+pub alike-kept : (t : Table) (marks : List ℕ) (ps : List Proposal) → OuterAlike t marks → OuterAlike t (finalMarks t marks ps)
+alike-kept t marks ps alike r s lr ls o p = outer-kept t marks ps r o ∙ alike r s lr ls o p ∙ sym (outer-kept t marks ps s p)
 
 -- ---- backwards, said
 

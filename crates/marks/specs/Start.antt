@@ -1,17 +1,22 @@
 -- What codes 10 to 12 look for, first match decides.
-use mathlib.Core.Path.{_≡_, sym, ap, _∙_}
-use mathlib.Core.Bool.{Bool, not, _&&_, _||_}
+use mathlib.Core.Path.{_≡_, refl, sym, ap, _∙_}
+use mathlib.Core.Bool.{Bool, not, _&&_, _||_, and-false}
 use mathlib.Core.List.{List}
+use mathlib.Core.Option.{none}
 use Prim.Native.Nat.{ℕ}
+use native.Mathlib.Omega.{arith}
 use lib.Dec.{eqb}
 use lib.ListN.{length, getD}
+use borrow.Author.Tests.{eq-eqb}
 use Rattle.rules.specs.Below.{lowest}
 use Rattle.rules.specs.First.{Verdict, firstMatch}
 use Rattle.rules.specs.Table.{Table, outer}
 use Rattle.rules.specs.Skin.{ringless}
 use Rattle.rules.specs.Proposals.{insideIn}
-use Rattle.rules.specs.Job.{markTests}
+use Rattle.rules.specs.Job.{unlike, markTests}
+use Rattle.rules.specs.Laws.Below.{none-lowest}
 use Rattle.rules.specs.Laws.First.{match-here, match-later, match-end}
+use Rattle.rules.specs.Reading.Outer.{OuterFirst, lowest-first-row}
 use Rattle.values.specs.declared.Found.{Found}
 use Rattle.values.specs.declared.Found.the-variants.{At, Nowhere}
 use Rattle.values.specs.Search.{placeOf}
@@ -29,8 +34,17 @@ verdictOf (Vertex v) = record { code = 12; place = v }
 abbrev pub badMark : List ℕ → ℕ → Bool
 badMark marks r = not (eqb (getD marks r 0) 0 || eqb (getD marks r 0) 1)
 
-abbrev pub outerInside : Table → List ℕ → ℕ → Bool
-outerInside t marks r = outer t r && insideIn marks r
+-- Outer rows come first, so a row is unlike exactly if it is outer and has not row 0's mark; row 0 is not.
+module _ (t : Table) (marks : List ℕ) (first : OuterFirst t) where
+  pub unlike-row-0 : (r : ℕ) → unlike t marks r ≡ (outer t r && not (eqb (getD marks r 0) (getD marks 0 0)))
+  unfolding unlike
+  unlike-row-0 r = rw (lowest-first-row t first)
+
+  pub row-0-alike : lowest 1 (unlike t marks) ≡ none
+  row-0-alike =
+      none-lowest 1 (unlike t marks) (λ r l.
+      let z : r ≡ 0 = omega arith in
+      ap (unlike t marks) z ∙ unlike-row-0 0 ∙ rw (eq-eqb (getD marks 0 0) (getD marks 0 0) refl) (and-false (outer t 0)))
 
 module _ (bytes marks : List ℕ) (ids : ℕ) (each : length marks ≡ rowsIn bytes) (bad : Found) (looked : placeOf bad ≡ lowest (length marks) (badMark marks)) where
   found-bad : lowest (rowsIn bytes) (badMark marks) ≡ placeOf bad
@@ -40,7 +54,7 @@ module _ (bytes marks : List ℕ) (ids : ℕ) (each : length marks ≡ rowsIn by
   unfolding markTests
   bad-found {r} e = sym (match-here 10 _ _ r (found-bad ∙ ap placeOf e))
 
-  module _ (fine : bad ≡ Nowhere) (out : Found) (sought : placeOf out ≡ lowest (rowsIn bytes) (outerInside (tableIn bytes) marks)) where
+  module _ (fine : bad ≡ Nowhere) (out : Found) (sought : placeOf out ≡ lowest (rowsIn bytes) (unlike (tableIn bytes) marks)) where
     pub outer-found : {r : ℕ} → out ≡ At r → verdictOf (Outer r) ≡ firstMatch 10 (markTests (tableIn bytes) ids marks)
     unfolding markTests
     outer-found {r} e = sym (match-later 10 _ _ (found-bad ∙ ap placeOf fine) ∙ match-here 11 _ _ r (sym sought ∙ ap placeOf e))

@@ -2,6 +2,7 @@
 use Prim.Native.Nat.{ℕ, _+_, _-_, _*_, _/_}
 use mathlib.Core.Bool.{Bool, not, _&&_, _||_, cond}
 use mathlib.Core.List.{List, [], _∷_, _++_, flatten}
+use mathlib.Core.Option.{Option·getD}
 use lib.Dec.{eqb, leb, ltb}
 use lib.ListN.{length, getD, take, drop, replicate}
 use Rattle.rules.specs.Below.{lowest, tabulate}
@@ -198,12 +199,20 @@ tableTests t idCount =
     ∷ (λ _. lowest (t .rows) (λ r. not (verticesJoined t r)))
     ∷ []
 
+-- the lowest outer row, or 0 where there is none
+abbrev pub lowestOuter : Table → ℕ
+lowestOuter t = Option·getD (lowest (t .rows) (outer t)) 0
+
+-- an outer row whose mark differs from that of the lowest outer row
+unfoldable pub unlike : Table → List ℕ → ℕ → Bool
+unlike t marks r = outer t r && not (eqb (getD marks r 0) (getD marks (lowestOuter t) 0))
+
 unfoldable pub markTests : Table → ℕ → List ℕ → List Test
 markTests t idCount marks =
     -- 10: a mark that is not 0 or 1
     (λ _. lowest (t .rows) (λ r. not (eqb (getD marks r 0) 0 || eqb (getD marks r 0) 1)))
-    -- 11: an outer row marked inside
-    ∷ (λ _. lowest (t .rows) (λ r. outer t r && insideIn marks r))
+    -- 11: outer rows with unlike marks
+    ∷ (λ _. lowest (t .rows) (unlike t marks))
     -- 12: starting skin not clean
     ∷ (λ _. lowest idCount (ringless t (insideIn marks) idCount))
     ∷ []

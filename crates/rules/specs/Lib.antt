@@ -1,4 +1,4 @@
--- What document 01 means, with request (i) of document 02, from the bottom up, in their words, each idea in one place:
+-- What document 01 means, with requests (i) and (ii) of document 02, from the bottom up, in their words, each idea in one place:
 --     Below       numbers below a bound: lowest, any, all, count, pick, tabulate
 --     Words       numbers in bytes, low byte first
 --     Shape       corners, triangles and edges of a row, by position

@@ -5,6 +5,7 @@
 --     Moves       rows that hold two ids, and the moves between them
 --     Apart       no two rows have the same ids
 --     Skin        skin triangles, skin vertices, far edges
+--     Outer       outer rows: they come first; alike or not; the finite skin
 --     Ring        one ring, clean
 --     Answers     the tests of a proposal and the five cases
 --     Codes       each code exactly in its case, and what it leaves
@@ -18,6 +19,7 @@ pub mod Closed
 pub mod Moves
 pub mod Apart
 pub mod Skin
+pub mod Outer
 pub mod Ring
 pub mod Answers
 pub mod Codes

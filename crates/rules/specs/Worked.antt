@@ -16,7 +16,7 @@ use Rattle.rules.specs.Skin.{onSkin, different, holdsThree, farEdge, far
 use Rattle.rules.specs.First.{given, firstMatch}
 use Rattle.rules.specs.Cases.{otherSide, free, trianglesOnSkin, passes, refusesAt, caseTests}
 use Rattle.rules.specs.Proposals.{insideIn, adds, answerTests, answer, marksAfter, answersTo, finalMarks, taken}
-use Rattle.rules.specs.Job.{Lent, Result, track, headerOf, withinLimits, laidOut, rowsTable, proposalIn, jobOf, shortRooms, roomShort, written, layoutTests, roomTests, tableTests, markTests, jobTests, accepted, refused, verdictOn, run}
+use Rattle.rules.specs.Job.{Lent, Result, track, headerOf, withinLimits, laidOut, rowsTable, proposalIn, jobOf, shortRooms, roomShort, written, layoutTests, roomTests, tableTests, unlike, markTests, jobTests, accepted, refused, verdictOn, run}
 
 -- ---- a job's bytes
 
@@ -82,7 +82,7 @@ pub record Worked : Type 0 where
   pub result : Result
 
 unfoldable pub ran : Worked → Result
-unfolding withinLimits orElse found lowest any all allBut bit sum count gather tabulate only pick word facet edgeTable vertices those unreached none-left connected tableOf rising idsBelow before holds outer side neighbours across neighbourList trianglesShared holdsFace faceJoined facesJoined edgesJoined verticesJoined onSkin different holdsThree farEdge farEnd oneRing skinVertex ringless triangle skinOf skin given firstMatch otherSide free trianglesOnSkin passes refusesAt caseTests insideIn adds answerTests answer marksAfter answersTo finalMarks taken headerOf laidOut rowsTable proposalIn jobOf shortRooms roomShort written layoutTests roomTests tableTests markTests jobTests accepted refused verdictOn run flatten
+unfolding withinLimits orElse found lowest any all allBut bit sum count gather tabulate only pick word facet edgeTable vertices those unreached none-left connected tableOf rising idsBelow before holds outer side neighbours across neighbourList trianglesShared holdsFace faceJoined facesJoined edgesJoined verticesJoined onSkin different holdsThree farEdge farEnd oneRing skinVertex ringless triangle skinOf skin given firstMatch otherSide free trianglesOnSkin passes refusesAt caseTests insideIn adds answerTests answer marksAfter answersTo finalMarks taken headerOf laidOut rowsTable proposalIn jobOf shortRooms roomShort written layoutTests roomTests tableTests unlike markTests jobTests accepted refused verdictOn run flatten
 ran w = run track (w .bytes) (w .lent)
 
 abbrev pub known : Worked → Result

@@ -14,8 +14,12 @@ pub struct Comparer {
     pub jobs: usize,
     /// How often each code was given.
     pub codes: [usize; 13],
-    /// How often each answer was given to an add, a remove and any other kind.
-    pub answers: [[usize; 8]; 3],
+    /// How often each answer was given to an add, a remove and any other kind,
+    /// with the outer rows outside and with them inside.
+    pub answers: [[[usize; 8]; 3]; 2],
+    /// How often code 11 was given with the lowest outer row outside, and with
+    /// it inside.
+    pub unlike: [usize; 2],
 }
 
 impl Comparer {
@@ -24,7 +28,8 @@ impl Comparer {
             folder: folder.into(),
             jobs: 0,
             codes: [0; 13],
-            answers: [[0; 8]; 3],
+            answers: [[[0; 8]; 3]; 2],
+            unlike: [0; 2],
         }
     }
 
@@ -56,23 +61,34 @@ impl Comparer {
         }
         self.jobs += 1;
         self.codes[plain.code as usize] += 1;
-        if plain.code == 0 {
-            let proposals = Job::from_bytes(job).map_or(vec![], |job| job.proposals);
-            for ([_, kind], &answer) in proposals.iter().zip(&by_plain.answers) {
+        if let (0 | 11, Some(job)) = (plain.code, Job::from_bytes(job)) {
+            let sky = usize::from(job.sky() == Some(1));
+            if plain.code == 11 {
+                self.unlike[sky] += 1;
+                return;
+            }
+            let listed = &by_track.triangles[..3 * track.triangles as usize];
+            assert!(!listed.contains(&0), "{name} ({kind}): id 0 is listed");
+            for ([_, kind], &answer) in job.proposals.iter().zip(&by_plain.answers) {
                 let kind = match *kind {
                     Job::ADD => 0,
                     Job::REMOVE => 1,
                     _ => 2,
                 };
-                self.answers[kind][usize::from(answer)] += 1;
+                self.answers[sky][kind][usize::from(answer)] += 1;
             }
         }
     }
 
-    /// Adds, removes and other kinds have each had every answer that they can
-    /// have, at least so often.
+    /// Under either sky each kind has had every answer that it can have, at
+    /// least so often.
     pub fn each_answer(&self, often: usize) -> bool {
-        let [adds, removes, others] = &self.answers;
+        [0, 1].iter().all(|&sky| self.each_answer_under(sky, often))
+    }
+
+    /// The same with the outer rows outside (0), or inside (1).
+    pub fn each_answer_under(&self, sky: usize, often: usize) -> bool {
+        let [adds, removes, others] = &self.answers[sky];
         let each = |given: &[usize; 8], possible: &[usize]| {
             possible.iter().all(|&answer| given[answer] >= often)
         };
@@ -82,8 +98,8 @@ impl Comparer {
 
     pub fn report(&self, title: &str) {
         println!(
-            "{title}: {} jobs, codes {:?}, answers {:?}",
-            self.jobs, self.codes, self.answers
+            "{title}: {} jobs, codes {:?}, unlike marks {:?}, answers {:?}",
+            self.jobs, self.codes, self.unlike, self.answers
         );
     }
 }

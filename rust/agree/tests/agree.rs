@@ -3,7 +3,7 @@
 
 use agree::{setting, with_stack, Comparer};
 use common::{Rooms, FEWEST_IDS, MOST_IDS, MOST_PROPOSALS, MOST_ROWS};
-use jobs::{cases, tables, Job, Random, Table};
+use jobs::{cases, growth, tables, Job, Random, Table};
 use std::fs;
 
 const STORED: &str = concat!(env!("CARGO_MANIFEST_DIR"), "/../../jobs");
@@ -35,9 +35,15 @@ fn random_jobs() {
         }
         comparer.report("random jobs");
         if count >= 20_000 {
-            let Comparer { codes, answers, .. } = comparer;
+            let Comparer {
+                codes,
+                answers,
+                unlike,
+                ..
+            } = comparer;
             assert!(codes.iter().all(|&given| given >= 100), "{codes:?}");
-            assert!(comparer.each_answer(1_000), "{answers:?}");
+            assert!(unlike.iter().all(|&given| given >= 50), "{unlike:?}");
+            assert!(comparer.each_answer(500), "{answers:?}");
         }
     });
 }
@@ -45,7 +51,7 @@ fn random_jobs() {
 #[test]
 fn large_jobs() {
     with_stack(|| {
-        let rounds = setting("AGREE_JOBS", 20_000) / 1600;
+        let rounds = setting("AGREE_JOBS", 20_000) / 800;
         let first = setting("AGREE_SEED", 1);
         let mut comparer = comparer();
         for number in (first..).take(rounds as usize) {
@@ -58,10 +64,10 @@ fn large_jobs() {
             }
         }
         comparer.report("large jobs");
-        if rounds >= 12 {
+        if rounds >= 25 {
             let Comparer { codes, answers, .. } = comparer;
-            assert!(codes[0] >= 30, "{codes:?}");
-            assert!(comparer.each_answer(100), "{answers:?}");
+            assert!(codes[0] >= 60, "{codes:?}");
+            assert!(comparer.each_answer(20), "{answers:?}");
         }
     });
 }
@@ -81,11 +87,15 @@ fn stored_jobs() {
             }
         }
         comparer.report("stored jobs");
-        // They show each code but 4, which is about room, and each answer.
+        // They show each code but 4, which is about room, and each answer: to
+        // adds and to removes, and with the sky inside.
         for (code, &count) in comparer.codes.iter().enumerate() {
             assert_eq!(count > 0, code != 4, "code {code}");
         }
-        assert!(comparer.each_answer(1), "{:?}", comparer.answers);
+        let answers = &comparer.answers;
+        assert!(comparer.each_answer_under(0, 1), "{answers:?}");
+        let given_inside = |answer: usize| answers[1].iter().any(|kind| kind[answer] > 0);
+        assert!((0..8).all(given_inside), "{answers:?}");
     });
 }
 
@@ -190,36 +200,69 @@ fn every_room() {
     });
 }
 
-/// Every marking of the finite rows of small tables, and from each clean one
-/// every single proposal.
+/// Small tables, by their most rows.
+fn small_tables(most: usize, random: &mut Random) -> Vec<Table> {
+    let all = [
+        tables::simplex(),
+        tables::join_of_rings(3, 4),
+        tables::join_of_rings(4, 4),
+        tables::cyclic(6),
+        tables::cyclic(7),
+        tables::suspension(&tables::sphere(6, random)),
+        tables::flips(11, random),
+        tables::flips(13, random),
+    ];
+    let small = all.iter().filter(|table| table.rows.len() <= most);
+    small
+        .map(|table| tables::relabelled(table, random))
+        .collect()
+}
+
+/// Every marking of small tables.
+#[test]
+fn every_marking() {
+    with_stack(|| {
+        let mut comparer = comparer();
+        let random = &mut Random::new(8);
+        for table in small_tables(12, random) {
+            let mut job = table.job();
+            let buffers = random.buffers(job.rooms());
+            for marking in 0..1 << job.rows.len() {
+                for (row, mark) in job.marks.iter_mut().enumerate() {
+                    *mark = (marking >> row & 1) as u8;
+                }
+                comparer.compare("marking", "every marking", &job.bytes(), &buffers);
+            }
+        }
+        comparer.report("every marking");
+        let [outside, inside] = comparer.unlike;
+        assert!(outside > 0 && outside == inside, "{outside} {inside}");
+    });
+}
+
+/// Every marking of the finite rows of small tables under either sky, and from
+/// each clean one every single proposal.
 #[test]
 fn every_start_and_proposal() {
     with_stack(|| {
         let mut comparer = comparer();
         let random = &mut Random::new(5);
-        let small = [
-            tables::simplex(),
-            tables::join_of_rings(3, 4),
-            tables::join_of_rings(4, 4),
-            tables::cyclic(6),
-            tables::cyclic(7),
-            tables::suspension(&tables::sphere(6, random)),
-            tables::flips(11, random),
-            tables::flips(13, random),
-        ];
-        for table in &small {
-            compare_starts(&mut comparer, &tables::relabelled(table, random), random);
+        for table in small_tables(usize::MAX, random) {
+            for sky in [0, 1] {
+                compare_starts(&mut comparer, &table, sky, random);
+            }
         }
         comparer.report("every start and proposal");
     });
 }
 
-fn compare_starts(comparer: &mut Comparer, table: &Table, random: &mut Random) {
+fn compare_starts(comparer: &mut Comparer, table: &Table, sky: u8, random: &mut Random) {
     let finite: Vec<usize> = (0..table.rows.len())
         .filter(|&row| table.rows[row][0] != 0)
         .collect();
     for marking in 0..1_usize << finite.len() {
         let mut job = table.job();
+        job.marks = growth::even_marks(table, sky, 0);
         for (bit, &row) in finite.iter().enumerate() {
             job.marks[row] = (marking >> bit & 1) as u8;
         }

@@ -1,6 +1,6 @@
 //! Random jobs of every sort, with the room lent for them.
 
-use crate::growth::{dug_marks, full_marks, grown_marks, propose, random_marks};
+use crate::growth::{even_marks, marks_after, propose, random_marks};
 use crate::{tables, Job, Random, Table};
 use common::{Rooms, FEWEST_IDS, HEADER_BYTES, HEADER_WORDS, MOST_IDS, MOST_PROPOSALS, MOST_ROWS};
 
@@ -56,43 +56,37 @@ pub fn case_on(family: &str, table: &Table, random: &mut Random) -> Case {
     }
 }
 
-fn start_marks(table: &Table, random: &mut Random) -> (&'static str, Vec<u8>) {
+/// Starting marks of which the outer ones are alike, and what they are.
+fn start_marks(table: &Table, random: &mut Random) -> (String, Vec<u8>) {
     let rows = table.rows.len();
-    let grown = |random: &mut Random| {
+    let sky = u8::from(random.chance(50));
+    let after = |finite: u8, adds: usize, random: &mut Random| {
         let steps = random.within(1, 2 * rows);
-        grown_marks(table, steps, random)
+        marks_after(table, even_marks(table, sky, finite), steps, adds, random)
     };
-    match random.below(20) {
-        0..6 => ("empty", vec![0; rows]),
-        6..10 => ("grown", grown(random)),
-        10..14 => {
-            let steps = random.within(1, 2 * rows);
-            ("dug", dug_marks(table, steps, random))
-        }
-        14..16 => ("full", full_marks(table)),
-        16 | 17 => {
-            let mut marks = grown(random);
-            for _ in 0..random.within(1, 3) {
-                let row = random.below(rows);
-                if table.rows[row][0] != 0 {
-                    marks[row] ^= 1;
-                }
-            }
-            ("grown with some turned", marks)
-        }
-        18 => {
-            let mut marks = full_marks(table);
-            for _ in 0..random.within(1, 3) {
-                let row = random.below(rows);
-                marks[row] = 0;
-            }
-            ("full but for some", marks)
-        }
+    let (start, mut marks) = match random.below(20) {
+        0..6 => ("empty", even_marks(table, sky, 0)),
+        6..10 => ("grown", after(0, 90, random)),
+        // There an add often has much of the inside about it.
+        10..14 => ("dug", after(1, 10, random)),
+        14..16 => ("full", even_marks(table, sky, 1)),
+        16 | 17 => ("grown with some turned", after(0, 90, random)),
+        18 => ("full with some turned", even_marks(table, sky, 1)),
         _ => {
             let percent = random.below(101);
-            ("random", random_marks(table, percent, random))
+            ("random", random_marks(table, sky, percent, random))
+        }
+    };
+    if start.ends_with("turned") {
+        for _ in 0..random.within(1, 3) {
+            let row = random.below(rows);
+            if table.rows[row][0] != 0 {
+                marks[row] ^= 1;
+            }
         }
     }
+    let side = ["outside", "inside"][usize::from(sky)];
+    (format!("{start}, the sky {side}"), marks)
 }
 
 /// Changes what the job says; the layout stays right.
@@ -162,11 +156,13 @@ fn damage(job: &mut Job, random: &mut Random) -> &'static str {
             "odd marks"
         }
         11 => {
+            let outer = job.rows.iter().filter(|row| row[0] == 0).count();
             for _ in 0..random.pick(&[1, 1, 2, 5]) {
-                let row = random.below(rows);
-                job.marks[row] = 1;
+                let most = random.pick(&[outer, rows]);
+                let row = random.below(most.max(1));
+                job.marks[row] ^= 1;
             }
-            "some rows marked, outer ones too"
+            "some rows turned, outer ones too"
         }
         12 | 13 => identify(job, random),
         _ => glue(job, random),

@@ -6,40 +6,44 @@ use common::{Buffers, MOST_PROPOSALS};
 /// Marks that a run from empty marks leaves, after `steps` proposals of which
 /// most are adds.
 pub fn grown_marks(table: &Table, steps: usize, random: &mut Random) -> Vec<u8> {
-    marks_after(table.job(), steps, 90, random)
+    marks_after(table, even_marks(table, 0, 0), steps, 90, random)
 }
 
-/// Marks that a run from full marks leaves, after `steps` proposals of which
-/// most are removes. There an add often has much of the inside about it.
-pub fn dug_marks(table: &Table, steps: usize, random: &mut Random) -> Vec<u8> {
-    let mut job = table.job();
-    job.marks = full_marks(table);
-    marks_after(job, steps, 10, random)
-}
-
-/// The marks of a job after `steps` proposals, of which `adds` in 100 are adds.
-fn marks_after(mut job: Job, steps: usize, adds: usize, random: &mut Random) -> Vec<u8> {
-    let mut marks = job.marks.clone();
+/// The marks that a run from `marks` leaves, after `steps` proposals of which
+/// `adds` in 100 are adds.
+pub fn marks_after(
+    table: &Table,
+    mut marks: Vec<u8>,
+    steps: usize,
+    adds: usize,
+    random: &mut Random,
+) -> Vec<u8> {
     let mut left = steps;
     while left > 0 {
         let now = left.min(MOST_PROPOSALS);
-        job.proposals.clear();
+        let mut job = table.job();
+        job.marks.clone_from(&marks);
         propose(&mut job, now, adds, random);
         marks = Standing::after(&job).map_or(marks, |standing| standing.marks);
-        job.marks.clone_from(&marks);
         left -= now;
     }
     marks
 }
 
-/// Marks with every finite row inside: the skin is the link of id 0.
-pub fn full_marks(table: &Table) -> Vec<u8> {
-    table.rows.iter().map(|row| u8::from(row[0] != 0)).collect()
+/// One mark for every outer row and one for every finite row: with unlike ones
+/// the skin is the link of id 0, with like ones it is empty.
+pub fn even_marks(table: &Table, outer: u8, finite: u8) -> Vec<u8> {
+    let mark = |row: &[u32; 4]| if row[0] == 0 { outer } else { finite };
+    table.rows.iter().map(mark).collect()
 }
 
-/// Marks each inside in `percent` of 100, outer rows never.
-pub fn random_marks(table: &Table, percent: usize, random: &mut Random) -> Vec<u8> {
-    let mut mark = |row: &[u32; 4]| u8::from(row[0] != 0 && random.chance(percent));
+/// Finite rows each inside in `percent` of 100, and one mark for every outer
+/// row.
+pub fn random_marks(table: &Table, outer: u8, percent: usize, random: &mut Random) -> Vec<u8> {
+    let mut mark = |row: &[u32; 4]| match row[0] {
+        0 => outer,
+        _ => u8::from(random.chance(percent)),
+    };
     table.rows.iter().map(&mut mark).collect()
 }
 

@@ -52,6 +52,12 @@ impl Job {
         }
     }
 
+    /// The mark of the lowest outer row.
+    pub fn sky(&self) -> Option<u8> {
+        let lowest = self.rows.iter().position(|row| row.contains(&0))?;
+        Some(self.marks[lowest])
+    }
+
     /// The room that a run needs.
     pub fn rooms(&self) -> Rooms {
         self.counts().rooms()

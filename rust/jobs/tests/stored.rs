@@ -8,9 +8,9 @@ use std::path::{Path, PathBuf};
 
 const FOLDER: &str = concat!(env!("CARGO_MANIFEST_DIR"), "/../../jobs");
 
-const NAMES: [&str; 19] = [
-    "a", "adds", "b", "c", "cut", "d", "e", "f", "g", "gap", "h", "i", "j", "largest", "n2049",
-    "n4", "removes", "short31", "v6",
+const NAMES: [&str; 21] = [
+    "a", "adds", "b", "c", "cut", "d", "e", "f", "g", "gap", "h", "i", "inward", "j", "largest",
+    "n2049", "n4", "removes", "short31", "sky", "v6",
 ];
 
 fn path(name: &str, ending: &str) -> PathBuf {
@@ -68,14 +68,14 @@ fn listings_are_what_plain_gives() {
 }
 
 #[test]
-fn listings_begin_as_document_01_says() {
+fn listings_begin_as_the_documents_say() {
     for (name, first) in [
         ("a", "done 7 3 4"),
         ("b", "done 7 5 8"),
         ("c", "refused 12 1"),
         ("cut", "refused 3 0"),
         ("d", "refused 10 3"),
-        ("e", "refused 11 0"),
+        ("e", "refused 11 1"),
         ("f", "done 0 0 0"),
         ("g", "refused 5 4"),
         ("h", "refused 6 4"),
@@ -84,6 +84,7 @@ fn listings_begin_as_document_01_says() {
         ("n2049", "refused 2 0"),
         ("n4", "refused 2 0"),
         ("short31", "refused 1 0"),
+        ("sky", "done 0 0 4"),
         ("v6", "done 7 3 4"),
     ] {
         assert_eq!(read_text(name, "out").lines().next(), Some(first), "{name}");

@@ -11,8 +11,9 @@ pub(crate) fn check_marks(table: &Table, marks: &[u8]) -> Result<(), Refusal> {
     if let Some(row) = marks.iter().position(|&mark| mark > 1) {
         return Err(Refusal::new(10, row));
     }
-    let outer_inside = |(mark, row): (&u8, &[u16; 4])| *mark == INSIDE && row[0] == 0;
-    match marks.iter().zip(table.rows).position(outer_inside) {
+    // Rows and their ids rise, so the outer rows are a front of the table.
+    let outer = table.rows.partition_point(|row| row[0] == 0);
+    match marks[..outer].iter().position(|&mark| mark != marks[0]) {
         Some(row) => Err(Refusal::new(11, row)),
         None => Ok(()),
     }

@@ -162,7 +162,7 @@ fn case_d() {
 
 #[test]
 fn case_e() {
-    refused_late(&inside(job_a(), &[0]), 11, 0);
+    refused_late(&inside(job_a(), &[0]), 11, 1);
 }
 
 #[test]
@@ -257,10 +257,47 @@ fn earlier_codes_decide() {
     job.rows[1] = job.rows[0];
     job.rows[4] = [1, 2, 3, 3];
     refused_late(&job, 5, 4);
-    // A bad mark stands after an outer row marked inside.
+    // A bad mark stands after outer rows with unlike marks.
     let mut job = inside(job_a(), &[0]);
     job.marks[4] = 255;
     refused_late(&job, 10, 4);
+}
+
+/// Job A with every outer row inside, and with every row.
+#[test]
+fn sky_inside() {
+    let link = [[1, 2, 3], [1, 2, 4], [1, 3, 4], [2, 3, 4]];
+    let mut sky = inside(job_a(), &[0, 1, 2, 3]);
+    sky.proposals.clear();
+    done(&sky, &[], &[1, 1, 1, 1, 0], &link, &NEIGHBOURS_A);
+    sky.proposals = vec![[4, 1]];
+    done(&sky, &[0], &[1; 5], &[], &NEIGHBOURS_A);
+    let mut all = inside(job_a(), &[0, 1, 2, 3, 4]);
+    all.proposals.clear();
+    done(&all, &[], &[1; 5], &[], &NEIGHBOURS_A);
+    all.proposals = vec![[4, 2]];
+    done(&all, &[0], &[1, 1, 1, 1, 0], &link, &NEIGHBOURS_A);
+}
+
+#[test]
+fn unlike_outer_rows() {
+    refused_late(&inside(job_a(), &[0, 1]), 11, 2);
+    refused_late(&inside(job_a(), &[1, 2, 3, 4]), 11, 1);
+    refused_late(&inside(job_a(), &[3]), 11, 3);
+    refused_late(&inside(job_a(), &[0, 1, 2]), 11, 3);
+}
+
+/// Job A with each id one higher: no row holds id 0, and none is outer.
+#[test]
+fn no_outer_row() {
+    let mut job = inside(job_a(), &[0]);
+    job.ids = 6;
+    job.proposals.clear();
+    for row in &mut job.rows {
+        *row = row.map(|id| id + 1);
+    }
+    let skin = [[2, 3, 4], [1, 3, 4], [1, 2, 4], [1, 2, 3]];
+    done(&job, &[], &[1, 0, 0, 0, 0], &skin, &NEIGHBOURS_A);
 }
 
 #[test]

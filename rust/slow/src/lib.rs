@@ -116,7 +116,11 @@ fn refused_by_table(v: usize, rows: &[Row], marks: &[u8]) -> Option<(u32, usize)
                 .or_else(|| first(9, &|r| rows[r].iter().any(|&id| !joined_at[id as usize])))
         })
         .or_else(|| first(10, &|r| marks[r] != 0 && marks[r] != 1))
-        .or_else(|| first(11, &|r| rows[r].contains(&0) && marks[r] == 1))
+        .or_else(|| {
+            let outer = |r: &usize| rows[*r].contains(&0);
+            let lowest = (0..rows.len()).find(outer)?;
+            first(11, &|r| outer(&r) && marks[r] != marks[lowest])
+        })
         .or_else(|| {
             let skin = skin(rows, marks);
             let place = (0..v).find(|&id| !one_ring_or_off_skin(&skin, id as u32))?;

@@ -71,7 +71,7 @@ fn small_tables() -> Vec<Table> {
     small
 }
 
-/// Every marking of the finite rows of small tables.
+/// Every marking of the finite rows of small tables, under either sky.
 #[test]
 fn every_start() {
     for table in small_tables() {
@@ -79,14 +79,43 @@ fn every_start() {
             .filter(|&r| table.rows[r][0] != 0)
             .collect();
         assert!(finite.len() <= 10, "{}", finite.len());
-        for marking in 0..1 << finite.len() {
+        for marking in 0..2 << finite.len() {
             let mut job = table.job();
+            job.marks = growth::even_marks(&table, (marking & 1) as u8, 0);
             for (bit, &row) in finite.iter().enumerate() {
-                job.marks[row] = (marking >> bit & 1) as u8;
+                job.marks[row] = (marking >> (bit + 1) & 1) as u8;
             }
             agree("every start", &job.bytes(), Buffers::zeros(job.rooms()));
         }
     }
+}
+
+/// Every marking of the smallest tables: outer rows with unlike marks get code
+/// 11, and the place of the lowest that differs from the lowest.
+#[test]
+fn every_marking() {
+    let mut unlike = 0;
+    for table in small_tables() {
+        if table.rows.len() > 12 {
+            continue;
+        }
+        for marking in 0..1 << table.rows.len() {
+            let mut job = table.job();
+            for (row, mark) in job.marks.iter_mut().enumerate() {
+                *mark = (marking >> row & 1) as u8;
+            }
+            let (outcome, _) = agree("every marking", &job.bytes(), Buffers::zeros(job.rooms()));
+            let mut outer = (0..).zip(&job.rows).filter(|(_, row)| row.contains(&0));
+            let sky = job.sky();
+            let place = outer.find(|&(r, _): &(usize, _)| Some(job.marks[r]) != sky);
+            match place {
+                Some((r, _)) => assert_eq!(outcome, Outcome::refused(11, r as u32)),
+                None => assert_ne!(outcome.code, 11),
+            }
+            unlike += usize::from(place.is_some());
+        }
+    }
+    assert!(unlike > 1_000, "{unlike}");
 }
 
 /// Each byte of jobs A and B changed, and each length.
@@ -113,18 +142,18 @@ fn every_byte_and_length() {
 }
 
 /// On a closed table with a clean skin the five cases take a proposal exactly
-/// if the skin is clean after it, and refuse it with 5 and f. Each f must come
-/// with each answer it can have.
+/// if the skin is clean after it, and refuse it with 5 and f. Under either sky
+/// each f must come with each answer it can have, and no skin triangle holds
+/// id 0.
 #[test]
 fn five_cases_keep_the_skin_clean() {
     let random = &mut Random::new(7);
-    let mut seen = [[[0; 2]; 5]; 2];
-    for number in 0..800 {
-        let (_, table) = tables::any(12 + number / 8, random);
+    let mut seen = [[[[0; 2]; 5]; 2]; 2];
+    for number in 0..2000 {
+        let (_, table) = tables::any(12 + number / 20, random);
         let mut job = table.job();
-        if random.chance(50) {
-            job.marks = growth::full_marks(&table);
-        }
+        let sky = random.pick(&[0, 1]);
+        job.marks = growth::even_marks(&table, sky, random.pick(&[0, 1]));
         let adds = random.pick(&[20, 50, 80]);
         growth::propose(&mut job, 40, adds, random);
         let (outcome, buffers) = agree("five cases", &job.bytes(), Buffers::zeros(job.rooms()));
@@ -136,18 +165,22 @@ fn five_cases_keep_the_skin_clean() {
             }
             let row = row as usize;
             let f = slow::triangles_on_skin(&job.rows, &marks, row);
-            seen[kind as usize - 1][f][usize::from(answer != 0)] += 1;
+            seen[usize::from(sky)][kind as usize - 1][f][usize::from(answer != 0)] += 1;
             marks[row] ^= 1;
-            let clean = slow::is_clean(job.ids, &slow::skin(&job.rows, &marks));
+            let skin = slow::skin(&job.rows, &marks);
+            assert!(!skin.as_flattened().contains(&0));
+            let clean = slow::is_clean(job.ids, &skin);
             assert_eq!(usize::from(answer), if clean { 0 } else { 5 + f });
             if !clean {
                 marks[row] ^= 1;
             }
         }
     }
-    println!("add, then remove: taken and refused for each f: {seen:?}");
-    for by_f in seen {
-        for (f, [taken, refused]) in by_f.into_iter().enumerate() {
+    println!(
+        "the sky outside, then inside; add, then remove: taken and refused for each f: {seen:?}"
+    );
+    for by_f in seen.as_flattened() {
+        for (f, &[taken, refused]) in by_f.iter().enumerate() {
             assert!(taken >= 10, "{seen:?}");
             assert_eq!(refused >= 10, f <= 2, "{seen:?}");
         }

@@ -56,6 +56,13 @@ module _ {ℓ} {A : Type ℓ} where
   flatten-snoc [] x = append-nil x
   flatten-snoc (y ∷ ys) x = ap (λ (zs : List A). y ++ zs) (flatten-snoc ys x) ∙ sym (append-assoc y (flatten ys) x)
 
+  -- a member of a flattened list is one of a list in it
+  pub flatten-in : (x : A) (xs : List (List A)) → Among x (flatten xs) → (ys : List A) × Among ys xs × Among x ys
+  unfolding flatten
+  flatten-in x [] m = absurd (List·Memᴰ·not-nil m)
+  flatten-in x (y ∷ xs) m =
+      ⊎-elim (λ here. (y, List·Memᴰ·head refl, here)) (λ later. let (ys, i, j) = flatten-in x xs later in (ys, List·Memᴰ·tail i, j)) (List·Memᴰ·append-cases y m)
+
   pub in-gather : (n : ℕ) (f : ℕ → List A) (x : A) (k : ℕ) → k < n → Among x (f k) → Among x (gather n f)
   unfolding gather
   in-gather zero f x k h m = absurd (not-suc-le-zero h)

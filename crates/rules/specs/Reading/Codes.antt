@@ -16,7 +16,7 @@ use Rattle.rules.specs.Table.{Table, tableOf, rising, idsBelow, before, 
 use Rattle.rules.specs.Skin.{ringless, clean}
 use Rattle.rules.specs.First.{Test, given, Verdict, firstMatch}
 use Rattle.rules.specs.Proposals.{insideIn}
-use Rattle.rules.specs.Job.{Form, Header, headerWord, headerOf, mostIds, mostRows, mostProposals, least, within, withinLimits, rowsAt, marksAt, proposalsAt, wholeLength, laidOut, rowsTable, Job, jobOf, cleanWith, Lent, workRoom, listRoom, shortRooms, roomShort, written, codes, layoutTests, roomTests, badRow, notAfter, tableTests, markTests, sectionTests, jobTests, Result, accepted, refused, verdictOn, run}
+use Rattle.rules.specs.Job.{Form, Header, headerWord, headerOf, mostIds, mostRows, mostProposals, least, within, withinLimits, rowsAt, marksAt, proposalsAt, wholeLength, laidOut, rowsTable, Job, jobOf, cleanWith, Lent, workRoom, listRoom, shortRooms, roomShort, written, codes, layoutTests, roomTests, badRow, notAfter, tableTests, unlike, markTests, sectionTests, jobTests, Result, accepted, refused, verdictOn, run}
 use Rattle.rules.specs.Laws.Job.{job-corners}
 use Rattle.rules.specs.Laws.Truth.{is-true, is-false, not-both, and-both, not-reads, and-reads, or-reads, eqb-reads, ltb-reads, leb-reads, same-or-not}
 use Rattle.rules.specs.Laws.Below.{lowest-none, none-any}
@@ -24,6 +24,7 @@ use Rattle.rules.specs.Laws.First.{Reads, FirstOf, conditionAt, first-re
 use Rattle.rules.specs.Reading.Rows.{First, lowest-first, Rising, rising-reads, IdsBelow, ids-below-reads, Before, before-reads, Holds, holds-reads}
 use Rattle.rules.specs.Reading.Closed.{TrianglesShared, triangles-read, EdgesJoined, edges-read, VerticesJoined, vertices-read, Paired, Closed}
 use Rattle.rules.specs.Reading.Skin.{Inside, inside-reads, SkinVertex, SkinTriangle, skin-vertex-reads}
+use Rattle.rules.specs.Reading.Outer.{OuterAlike, Unlike, unlike-reads, alike-exactly}
 use Rattle.rules.specs.Reading.Ring.{OneRing, Clean, one-ring-reads, ring-plain}
 
 -- ---- the header and the room
@@ -100,8 +101,8 @@ abbrev pub markConditions : Table → ℕ → List ℕ → List (ℕ → Type 0)
 markConditions t idCount marks =
     -- 10: a mark that is not 0 or 1
     First (t .rows) (λ r. ((getD marks r 0 ≡ 0) ⊎ (getD marks r 0 ≡ 1)) → ⊥)
-    -- 11: an outer row marked inside
-    ∷ First (t .rows) (λ r. Holds t r 0 × Inside marks r)
+    -- 11: an outer row whose mark differs from that of the lowest outer row
+    ∷ First (t .rows) (Unlike t marks)
     -- 12: starting skin not clean: a skin vertex without one ring
     ∷ First idCount (λ v. SkinVertex t (Inside marks) v × (OneRing idCount (SkinTriangle t (Inside marks) v) → ⊥))
     ∷ []
@@ -183,13 +184,12 @@ module _ (t : Table) (idCount : ℕ) where
 
   -- codes 10 to 12, on a closed table of four corners
   marks-read : t .corners ≡ 4 → (marks : List ℕ) → Closed t idCount → Reads (markTests t idCount marks) (markConditions t idCount marks)
-  unfolding markTests outer ringless
+  unfolding markTests ringless
   marks-read four marks closed = (
     lowest-first (t .rows) (λ r. not (eqb (getD marks r 0) 0 || eqb (getD marks r 0) 1)) (λ r. ((getD marks r 0 ≡ 0) ⊎ (getD marks r 0 ≡ 1)) → ⊥)
         (λ r _. not-reads (or-reads (eqb-reads (getD marks r 0) 0) (eqb-reads (getD marks r 0) 1))),
     λ _. (
-      lowest-first (t .rows) (λ r. holds t r 0 && insideIn marks r) (λ r. Holds t r 0 × Inside marks r)
-          (λ r _. and-reads (holds-reads t r 0) (inside-reads marks r)),
+      lowest-first (t .rows) (unlike t marks) (Unlike t marks) (unlike-reads t marks),
       λ _. (
         lowest-first idCount (ringless t (insideIn marks) idCount)
             (λ v. SkinVertex t (Inside marks) v × (OneRing idCount (SkinTriangle t (Inside marks) v) → ⊥))
@@ -200,14 +200,14 @@ module _ (t : Table) (idCount : ℕ) where
     ),
   )
 
-  -- marks of 0 and 1, no outer row inside and a clean skin: none of the codes 10 to 12
+  -- marks of 0 and 1, outer rows alike and a clean skin: none of the codes 10 to 12
   pub marks-fit : t .corners ≡ 4 → (marks : List ℕ) → Closed t idCount → ((r : ℕ) → r < t .rows → (getD marks r 0 ≡ 0) ⊎ (getD marks r 0 ≡ 1))
-      → ((r : ℕ) → r < t .rows → Holds t r 0 → Inside marks r → ⊥) → Clean t (Inside marks) idCount → firstMatch 10 (markTests t idCount marks) .code ≡ 0
-  marks-fit four marks closed binary finite rings = none-reads 10 (zero-lt-suc 9) (markTests t idCount marks) (markConditions t idCount marks) (marks-read four marks closed) .1 off
+      → OuterAlike t marks → Clean t (Inside marks) idCount → firstMatch 10 (markTests t idCount marks) .code ≡ 0
+  marks-fit four marks closed binary alike rings = none-reads 10 (zero-lt-suc 9) (markTests t idCount marks) (markConditions t idCount marks) (marks-read four marks closed) .1 off
     where
       off : (i place : ℕ) → conditionAt (markConditions t idCount marks) i place → ⊥
       off zero r f = f .is (binary r (f .below))
-      off (suc zero) r f = finite r (f .below) (f .is .0) (f .is .1)
+      off (suc zero) r f = alike-exactly t marks .1 alike r (f .below) (f .is)
       off (suc (suc zero)) v f = f .is .1 (rings v (f .below) (f .is .0))
       off (suc (suc (suc i))) place f = f
 
@@ -342,15 +342,15 @@ module _ (f : Form) (bytes : List ℕ) (lent : Lent) where
         or-reads (eqb-reads (getD marks r 0) 0) (eqb-reads (getD marks r 0) 1) .0
         (each-row (jobOf f bytes .table) (jobOf f bytes .ids) (λ r. eqb (getD marks r 0) 0 || eqb (getD marks r 0) 1) n10 r l)
 
-    -- no outer row is inside
-    pub accepted-outer : (r : ℕ) → r < jobOf f bytes .table .rows → Holds (jobOf f bytes .table) r 0 → Inside (jobOf f bytes .marks) r → ⊥
-    unfolding markTests outer
-    accepted-outer r l h i =
+    -- the outer rows are alike
+    pub accepted-outer : OuterAlike (jobOf f bytes .table) (jobOf f bytes .marks)
+    unfolding markTests
+    accepted-outer =
         let t = jobOf f bytes .table in
         let marks = jobOf f bytes .marks in
         let (_, e11) = match-zero 10 (zero-lt-suc 9) _ _ marks-passed in
         let (n11, _) = match-zero 11 (zero-lt-suc 10) _ _ e11 in
-        not-both (and-both (holds-reads t r 0 .1 h) (inside-reads marks r .1 i)) (lowest-none (t .rows) (λ r. holds t r 0 && insideIn marks r) n11 r l)
+        alike-exactly t marks .0 (λ r l x. not-both (unlike-reads t marks r l .1 x) (lowest-none (t .rows) (unlike t marks) n11 r l))
 
     -- the starting skin is clean
     pub accepted-clean : cleanWith (jobOf f bytes) (jobOf f bytes .marks) ≡ true

@@ -16,7 +16,8 @@ use Rattle.rules.specs.Laws.Shape.{facet-three, three-facet}
 use Rattle.rules.specs.Reading.Rows.{lower-first, Holds}
 use Rattle.rules.specs.Reading.Neighbours.{Side, side-self}
 use Rattle.rules.specs.Reading.Closed.{Paired}
-use Rattle.rules.specs.Reading.Skin.{OnSkin, BetweenSides, skin-reads, skin-between-sides, triangle-of}
+use Rattle.rules.specs.Reading.Skin.{Inside, OnSkin, BetweenSides, skin-reads, skin-between-sides, triangle-of}
+use Rattle.rules.specs.Reading.Outer.{OuterAlike, finite-ids}
 use Rattle.rules.specs.Reading.Ring.{Clean}
 use Rattle.rules.specs.Reading.Room.{Listed, skin-listed, triangleAt, listedAt, skin-by-place, triangle-holds, holds-triangle}
 
@@ -144,3 +145,9 @@ module _ (t : Table) (four : t .corners ≡ 4) {idCount : ℕ} (paired : Paired 
           between = skin-between-sides t inside told paired (x .row) (x .corner) (x .row-below) (below-corners (x .corner-below)) .0 (skin-reads t inside told (x .row) (x .corner) .1 (x .on-skin));
           ids-are = refl;
         }))))
+
+-- where the outer rows are alike, no skin triangle holds id 0
+pub finite-skin : (t : Table) (marks : List ℕ) → t .corners ≡ 4 → OuterAlike t marks → (ids : List ℕ) → SideTriangle t (Inside marks) ids → Among 0 ids → ⊥
+finite-skin t marks four alike ids x m =
+    let (k, l, ne, e) = holds-triangle t four (x .row) (x .corner) 0 (subst (λ (xs : List ℕ). Among 0 xs) (x .ids-are) m) in
+    finite-ids t marks alike (x .between) k (subst (λ (n : ℕ). k < n) (sym four) l) ne e

@@ -9,13 +9,16 @@ use Rattle.rules.specs.Worked.{header, job, lend, done, Worked, ran, kno
 abbrev pub proposalsA : List ℕ
 proposalsA = add 4 ++ add 4 ++ add 0 ++ remove 4 ++ proposal 4 3 ++ add 5 ++ add 4
 
+abbrev pub neighboursA : List ℕ
+neighboursA = row 4 3 2 1 ++ row 4 3 2 0 ++ row 4 3 1 0 ++ row 4 2 1 0 ++ row 3 2 1 0
+
 abbrev pub resultA : Result
 resultA =
     done 3 4
     (0 ∷ 4 ∷ 3 ∷ 0 ∷ 2 ∷ 1 ∷ 0 ∷ [])
     (marked 5 (4 ∷ []))
     (three 2 3 4 ++ three 1 3 4 ++ three 1 2 4 ++ three 1 2 3)
-    (row 4 3 2 1 ++ row 4 3 2 0 ++ row 4 3 1 0 ++ row 4 2 1 0 ++ row 3 2 1 0)
+    neighboursA
 
 abbrev pub wholeA : Worked
 wholeA = accepts 5 tableA (marked 5 []) proposalsA resultA
@@ -37,15 +40,10 @@ documentJobs =
     ∷ refuses 7 tableB (marked 12 (8 ∷ 11 ∷ [])) [] 12 1
     -- (d) A with mark 2 on row 3
     ∷ refuses 5 tableA (set (marked 5 []) 3 2) proposalsA 10 3
-    -- (e) A with a mark on row 0
-    ∷ refuses 5 tableA (marked 5 (0 ∷ [])) proposalsA 11 0
+    -- (e) A with a mark on row 0, as document 02 (ii) has it
+    ∷ refuses 5 tableA (marked 5 (0 ∷ [])) proposalsA 11 1
     -- (f) A with P 0
-    ∷ accepts 5 tableA (marked 5 []) []
-    (done 0 0
-    []
-    (marked 5 [])
-    []
-    (row 4 3 2 1 ++ row 4 3 2 0 ++ row 4 3 1 0 ++ row 4 2 1 0 ++ row 3 2 1 0))
+    ∷ accepts 5 tableA (marked 5 []) [] (done 0 0 [] (marked 5 []) [] neighboursA)
     -- (g) A with its last row made 1 2 3 3
     ∷ refuses 5 (take 16 tableA ++ row 1 2 3 3) (marked 5 []) proposalsA 5 4
     -- (h) A with its last row a copy of row 3

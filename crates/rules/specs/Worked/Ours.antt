@@ -6,8 +6,8 @@ use lib.ListN.{take, drop, replicate}
 use Rattle.rules.specs.Job.{Lent, track, headerOf}
 use Rattle.rules.specs.Made.{headerBytes, proposalBytes, cutTo, remade}
 use Rattle.rules.specs.Words.{word, words}
-use Rattle.rules.specs.Worked.{job, lend, done, Worked, ran, known, accepts, refuses, keeps, row, three, add, remove, proposal, tableA, tableC, tableD, marked}
-use Rattle.rules.specs.Worked.Document.{jobA}
+use Rattle.rules.specs.Worked.{job, lend, done, Worked, ran, known, accepts, refuses, keeps, row, three, add, remove, proposal, tableA, tableB, tableC, tableD, marked}
+use Rattle.rules.specs.Worked.Document.{neighboursA, jobA}
 
 -- ---- jobs that catch a wrong meaning which passes all of document 01's own
 
@@ -80,6 +80,44 @@ pub answer-jobs : map ran answerJobs ≡ map known answerJobs
 unfolding ran
 answer-jobs = refl
 
+-- ---- the sky inside, as document 02 (ii) has it
+
+-- grown inward from the sky, at f = 0 1 1 1 2 2 2 3 3, then a remove at f = 1: rows of the sky hold the vertex opposite, but they are inside
+abbrev pub inwardD : Worked
+inwardD =
+    accepts 9 tableD (marked 17 (0 ∷ 1 ∷ 2 ∷ 3 ∷ [])) (add 9 ++ add 7 ++ add 9 ++ add 6 ++ add 5 ++ add 6 ++ add 8 ++ add 4 ++ add 8 ++ remove 8 ++ add 17
+    ++ proposal 16 3 ++ remove 0 ++ add 7)
+    (done 7 6
+    (5 ∷ 0 ∷ 0 ∷ 6 ∷ 0 ∷ 0 ∷ 7 ∷ 0 ∷ 0 ∷ 0 ∷ 1 ∷ 2 ∷ 3 ∷ 4 ∷ [])
+    (marked 17 (0 ∷ 1 ∷ 2 ∷ 3 ∷ 4 ∷ 5 ∷ 6 ∷ 7 ∷ 9 ∷ []))
+    (three 2 3 5 ++ three 3 4 5 ++ three 3 4 6 ++ three 2 3 6 ++ three 4 5 6 ++ three 2 5 6)
+    neighboursD)
+
+abbrev pub skyJobs : List Worked
+skyJobs =
+    -- A with rows 0 to 3 marked: four triangles, and after an add of row 4 none
+    accepts 5 tableA (marked 5 (0 ∷ 1 ∷ 2 ∷ 3 ∷ [])) []
+    (done 0 4 [] (marked 5 (0 ∷ 1 ∷ 2 ∷ 3 ∷ [])) (three 1 2 3 ++ three 1 2 4 ++ three 1 3 4 ++ three 2 3 4) neighboursA)
+    ∷ accepts 5 tableA (marked 5 (0 ∷ 1 ∷ 2 ∷ 3 ∷ [])) (add 4) (done 1 0 (0 ∷ []) (marked 5 (0 ∷ 1 ∷ 2 ∷ 3 ∷ 4 ∷ [])) [] neighboursA)
+    -- A with all rows marked: no triangle, and a remove of row 4 is taken
+    ∷ accepts 5 tableA (marked 5 (0 ∷ 1 ∷ 2 ∷ 3 ∷ 4 ∷ [])) [] (done 0 0 [] (marked 5 (0 ∷ 1 ∷ 2 ∷ 3 ∷ 4 ∷ [])) [] neighboursA)
+    ∷ accepts 5 tableA (marked 5 (0 ∷ 1 ∷ 2 ∷ 3 ∷ 4 ∷ [])) (remove 4)
+    (done 1 4 (0 ∷ []) (marked 5 (0 ∷ 1 ∷ 2 ∷ 3 ∷ [])) (three 1 2 3 ++ three 1 2 4 ++ three 1 3 4 ++ three 2 3 4) neighboursA)
+    ∷ inwardD
+    -- A with rows 0 and 1 marked, and with rows 1 to 4: the lowest that is unlike row 0
+    ∷ refuses 5 tableA (marked 5 (0 ∷ 1 ∷ [])) [] 11 2
+    ∷ refuses 5 tableA (marked 5 (1 ∷ 2 ∷ 3 ∷ 4 ∷ [])) [] 11 1
+    -- all outer rows alike, but the skin not clean: B with the sky and rows 9 and 10 marked, the others of (c)
+    ∷ refuses 7 tableB (marked 12 (0 ∷ 1 ∷ 2 ∷ 3 ∷ 4 ∷ 5 ∷ 6 ∷ 7 ∷ 9 ∷ 10 ∷ [])) [] 12 1
+    -- no outer row, since no row holds id 0: any marks are alike
+    ∷ accepts 6 (row 1 2 3 4 ++ row 1 2 3 5 ++ row 1 2 4 5 ++ row 1 3 4 5 ++ row 2 3 4 5) (marked 5 (0 ∷ [])) []
+    (done 0 4 [] (marked 5 (0 ∷ [])) (three 2 3 4 ++ three 1 3 4 ++ three 1 2 4 ++ three 1 2 3) neighboursA)
+    ∷ []
+
+pub sky-jobs : map ran skyJobs ≡ map known skyJobs
+unfolding ran
+sky-jobs = refl
+
 -- ---- each line of the table of codes
 
 -- A's bytes with word i of the header changed
@@ -143,7 +181,7 @@ lateJobs =
     (marked 10 []) [] 9 1
     -- 10: the first of two such marks
     ∷ refuses 5 tableA (0 ∷ 2 ∷ 0 ∷ 0 ∷ 255 ∷ []) [] 10 1
-    -- 11: the first of two such rows
+    -- 11: the first of two outer rows that are unlike row 0
     ∷ refuses 5 tableA (marked 5 (3 ∷ 1 ∷ 4 ∷ [])) [] 11 1
     -- 12: rows that touch along edge 2 7 alone
     ∷ refuses 8 tableC (marked 15 (7 ∷ 11 ∷ [])) [] 12 2
@@ -152,6 +190,7 @@ lateJobs =
     ∷ refuses 6 (take 16 tableA ++ row 0 2 3 4) (marked 5 []) [] 6 4
     ∷ refuses 6 (take 16 tableA ++ row 1 2 3 5) (2 ∷ 0 ∷ 0 ∷ 0 ∷ 0 ∷ []) [] 7 1
     ∷ refuses 5 tableA (1 ∷ 2 ∷ 0 ∷ 0 ∷ 0 ∷ []) [] 10 1
+    ∷ refuses 8 tableC (marked 15 (0 ∷ 6 ∷ 14 ∷ [])) [] 11 1
     ∷ []
 
 pub late-jobs : map ran lateJobs ≡ map known lateJobs
