@@ -99,13 +99,14 @@ fn stored_jobs() {
     });
 }
 
-/// Jobs A and B with each length, and with each byte changed.
+/// Jobs A, A with the sky inside, and B, with each length, and with each byte
+/// changed.
 #[test]
 fn every_length_and_byte() {
     with_stack(|| {
         let mut comparer = comparer();
         let random = &mut Random::new(3);
-        for name in ["a", "b"] {
+        for name in ["a", "sky", "b"] {
             let job = fs::read(format!("{STORED}/{name}.job")).expect("a stored job");
             let buffers = random.buffers(Rooms::exact(13, 9));
             for at in 0..job.len() {
