@@ -4,7 +4,6 @@ use mathlib.Core.Bool.{Bool, not, _&&_, _||_, and-false}
 use mathlib.Core.List.{List}
 use mathlib.Core.Option.{none}
 use Prim.Native.Nat.{ℕ}
-use native.Mathlib.Omega.{arith}
 use lib.Dec.{eqb}
 use lib.ListN.{length, getD}
 use borrow.Author.Tests.{eq-eqb}
@@ -14,7 +13,7 @@ use Rattle.rules.specs.Table.{Table, outer}
 use Rattle.rules.specs.Skin.{ringless}
 use Rattle.rules.specs.Proposals.{insideIn}
 use Rattle.rules.specs.Job.{unlike, markTests}
-use Rattle.rules.specs.Laws.Below.{none-lowest}
+use Rattle.rules.specs.Laws.Below.{searched-more}
 use Rattle.rules.specs.Laws.First.{match-here, match-later, match-end}
 use Rattle.rules.specs.Reading.Outer.{OuterFirst, lowest-first-row}
 use Rattle.values.specs.declared.Found.{Found}
@@ -41,10 +40,8 @@ module _ (t : Table) (marks : List ℕ) (first : OuterFirst t) where
   unlike-row-0 r = rw (lowest-first-row t first)
 
   pub row-0-alike : lowest 1 (unlike t marks) ≡ none
-  row-0-alike =
-      none-lowest 1 (unlike t marks) (λ r l.
-      let z : r ≡ 0 = omega arith in
-      ap (unlike t marks) z ∙ unlike-row-0 0 ∙ rw (eq-eqb (getD marks 0 0) (getD marks 0 0) refl) (and-false (outer t 0)))
+  unfolding lowest
+  row-0-alike = searched-more 0 (unlike t marks) refl (unlike-row-0 0 ∙ rw (eq-eqb (getD marks 0 0) (getD marks 0 0) refl) (and-false (outer t 0)))
 
 module _ (bytes marks : List ℕ) (ids : ℕ) (each : length marks ≡ rowsIn bytes) (bad : Found) (looked : placeOf bad ≡ lowest (length marks) (badMark marks)) where
   found-bad : lowest (rowsIn bytes) (badMark marks) ≡ placeOf bad

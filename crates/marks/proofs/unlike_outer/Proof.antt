@@ -20,27 +20,12 @@ abbrev μ-loop : tie.MeasureT-loop
 loop-holds : tie.Need-loop-holds Inv-loop μ-loop
 loop-holds c = row-0-alike _ _ (c .before .before .before .pre .1)
 
-holds-requires : tie.Need-holds-requires Inv-loop μ-loop
-holds-requires c κs = search needs
-
-shared-slice-read-if1 : tie.Need-shared-slice-read-if1 Inv-loop μ-loop
-shared-slice-read-if1 c = search needs
-
-shared-slice-read-if1-2 : tie.Need-shared-slice-read-if1-2 Inv-loop μ-loop
-shared-slice-read-if1-2 c = search needs
-
 returns : tie.Need-returns Inv-loop μ-loop
 unfolding outer
 returns c =
     let start = c .before .before .before .before .before .before .before .before .before in
     sym (search-stops _ _ (unlike (tableIn _) _) (c .before .before .before .before .before .loop .inv) (search needs)
     (unlike-row-0 _ _ (start .pre .1) _ ∙ rw (← c .before .before .before .holds .ensures) (c .if1 .taken)))
-
-add-row : tie.Need-add-row Inv-loop μ-loop
-add-row c = search needs
-
-loop-less : tie.Need-loop-less Inv-loop μ-loop
-loop-less c = search needs
 
 loop-again : tie.Need-loop-again Inv-loop μ-loop
 unfolding outer
@@ -60,11 +45,11 @@ unlike-outer-spec =
     μ-loop
     (λ c κs. tt)
     loop-holds
-    holds-requires
-    shared-slice-read-if1
-    shared-slice-read-if1-2
+    (λ c κs. search needs)
+    (λ c. search needs)
+    (λ c. search needs)
     returns
-    add-row
-    loop-less
+    (λ c. search needs)
+    (λ c. search needs)
     loop-again
     returns-2)

@@ -12,7 +12,7 @@ use lib.ListN.{length, getD, drop, replicate, length-replicate, length-drop}
 use lib.Seq.{length-take-le}
 use borrow.Author.Tests.{ne-eqb, not-false, lt-ltb, le-leb, lt-leb}
 use Rattle.rules.specs.Below.{found, lowest}
-use Rattle.rules.specs.Table.{Table, tableOf, rising, idsBelow, before, holds, outer, trianglesShared, edgesJoined, verticesJoined}
+use Rattle.rules.specs.Table.{Table, tableOf, rising, idsBelow, before, trianglesShared, edgesJoined, verticesJoined}
 use Rattle.rules.specs.Skin.{ringless, clean}
 use Rattle.rules.specs.First.{Test, given, Verdict, firstMatch}
 use Rattle.rules.specs.Proposals.{insideIn}
@@ -21,7 +21,7 @@ use Rattle.rules.specs.Laws.Job.{job-corners}
 use Rattle.rules.specs.Laws.Truth.{is-true, is-false, not-both, and-both, not-reads, and-reads, or-reads, eqb-reads, ltb-reads, leb-reads, same-or-not}
 use Rattle.rules.specs.Laws.Below.{lowest-none, none-any}
 use Rattle.rules.specs.Laws.First.{Reads, FirstOf, conditionAt, first-reads, none-reads, given-reads, given-none, match-parts, match-both, match-below, match-zero, match-none}
-use Rattle.rules.specs.Reading.Rows.{First, lowest-first, Rising, rising-reads, IdsBelow, ids-below-reads, Before, before-reads, Holds, holds-reads}
+use Rattle.rules.specs.Reading.Rows.{First, lowest-first, Rising, rising-reads, IdsBelow, ids-below-reads, Before, before-reads}
 use Rattle.rules.specs.Reading.Closed.{TrianglesShared, triangles-read, EdgesJoined, edges-read, VerticesJoined, vertices-read, Paired, Closed}
 use Rattle.rules.specs.Reading.Skin.{Inside, inside-reads, SkinVertex, SkinTriangle, skin-vertex-reads}
 use Rattle.rules.specs.Reading.Outer.{OuterAlike, Unlike, unlike-reads, alike-exactly}

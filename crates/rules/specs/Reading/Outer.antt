@@ -1,19 +1,18 @@
 -- Outer rows: they come first; whether their marks are alike; where they are, no skin triangle lies between two of them.
 use mathlib.Core.Path.{_≡_, sym, ap, _∙_, subst}
 use mathlib.Core.Logic.{⊎-elim, _↔_, _≢_}
-use mathlib.Core.Bool.{true, not, _&&_}
+use mathlib.Core.Bool.{true}
 use mathlib.Core.Option.{Option, Option·getD}
 use mathlib.Core.List.{List}
 use Prim.Native.Nat.{ℕ, zero, suc, _≤_, _<_}
 use native.Mathlib.Nat.{zero-lt-suc, not-suc-le-zero, le-of-suc-le-suc, eq-or-lt-of-le}
 use native.Mathlib.Omega.{arith}
-use lib.Dec.{eqb}
 use lib.ListN.{getD}
 use Rattle.rules.specs.Table.{Table, outer}
 use Rattle.rules.specs.Job.{lowestOuter, unlike}
 use Rattle.rules.specs.Laws.Truth.{not-both, and-reads, not-reads, eqb-reads, same-or-not}
 use Rattle.rules.specs.Laws.Below.{is-lowest, none-lowest, lowest-or-none}
-use Rattle.rules.specs.Reading.Rows.{First, lowest-first, Rising, Before, Holds, holds-reads}
+use Rattle.rules.specs.Reading.Rows.{First, lowest-first, Before, Holds, holds-reads}
 use Rattle.rules.specs.Reading.Closed.{Paired}
 use Rattle.rules.specs.Reading.Skin.{Inside, BetweenSides}
 
@@ -38,12 +37,8 @@ module _ {t : Table} {idCount : ℕ} (paired : Paired t idCount) where
   row-before r l o =
       let (m, e) = at-corner-0 (suc r) l o in
       let b : Before t r (suc r) = subst (λ s. Before t s (suc r)) (omega arith) (paired .ordered (suc r) (zero-lt-suc r) l) in
-      (0, m, go m e b)
-    where
-      go : 0 < t .corners → t .id (suc r) 0 ≡ 0 → Before t r (suc r) → t .id r 0 ≡ 0
-      go m e b =
-          ⊎-elim (λ (z : b .corner ≡ 0). absurd (omega (arith, subst (λ c. t .id r c < t .id (suc r) c) z (b .lower)))) (λ ne. b .same 0 (omega (arith, ne)) ∙ e)
-          (same-or-not (b .corner) 0)
+      ⊎-elim (λ (z : b .corner ≡ 0). absurd (omega (arith, subst (λ c. t .id r c < t .id (suc r) c) z (b .lower)))) (λ ne. (0, m, b .same 0 (omega (arith, ne)) ∙ e))
+      (same-or-not (b .corner) 0)
 
   pub outer-first : (r s : ℕ) → s ≤ r → r < t .rows → Outer t r → Outer t s
   outer-first zero s l m o = subst (Outer t) (omega arith) o
@@ -65,7 +60,7 @@ module _ (t : Table) where
   abbrev pub OuterFirst : Type 0
   OuterFirst = (r : ℕ) → r < t .rows → Outer t r → Outer t 0
 
-  -- so the mark of the lowest outer row is that of row 0
+  -- so the lowest outer row is row 0
   pub lowest-first-row : OuterFirst → lowestOuter t ≡ 0
   lowest-first-row first =
       ⊎-elim
