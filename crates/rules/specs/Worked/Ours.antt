@@ -82,34 +82,39 @@ answer-jobs = refl
 
 -- ---- the sky inside, as document 02 (ii) has it
 
--- grown inward from the sky, at f = 0 1 1 1 2 2 2 3 3, then a remove at f = 1: rows of the sky hold the vertex opposite, but they are inside
+-- the outer rows of A and of D, and the triangles of A under them
+abbrev pub sky : List ℕ
+sky = 0 ∷ 1 ∷ 2 ∷ 3 ∷ []
+
+abbrev pub underSky : List ℕ
+underSky = three 1 2 3 ++ three 1 2 4 ++ three 1 3 4 ++ three 2 3 4
+
+-- grown inward, at f = 0 1 1 1 2 2 2 3 3, then a remove at f = 1: rows of the sky hold the vertex opposite, but they are inside
 abbrev pub inwardD : Worked
 inwardD =
-    accepts 9 tableD (marked 17 (0 ∷ 1 ∷ 2 ∷ 3 ∷ [])) (add 9 ++ add 7 ++ add 9 ++ add 6 ++ add 5 ++ add 6 ++ add 8 ++ add 4 ++ add 8 ++ remove 8 ++ add 17
+    accepts 9 tableD (marked 17 sky) (add 9 ++ add 7 ++ add 9 ++ add 6 ++ add 5 ++ add 6 ++ add 8 ++ add 4 ++ add 8 ++ remove 8 ++ add 17
     ++ proposal 16 3 ++ remove 0 ++ add 7)
     (done 7 6
     (5 ∷ 0 ∷ 0 ∷ 6 ∷ 0 ∷ 0 ∷ 7 ∷ 0 ∷ 0 ∷ 0 ∷ 1 ∷ 2 ∷ 3 ∷ 4 ∷ [])
-    (marked 17 (0 ∷ 1 ∷ 2 ∷ 3 ∷ 4 ∷ 5 ∷ 6 ∷ 7 ∷ 9 ∷ []))
+    (marked 17 (4 ∷ 5 ∷ 6 ∷ 7 ∷ 9 ∷ sky))
     (three 2 3 5 ++ three 3 4 5 ++ three 3 4 6 ++ three 2 3 6 ++ three 4 5 6 ++ three 2 5 6)
     neighboursD)
 
 abbrev pub skyJobs : List Worked
 skyJobs =
     -- A with rows 0 to 3 marked: four triangles, and after an add of row 4 none
-    accepts 5 tableA (marked 5 (0 ∷ 1 ∷ 2 ∷ 3 ∷ [])) []
-    (done 0 4 [] (marked 5 (0 ∷ 1 ∷ 2 ∷ 3 ∷ [])) (three 1 2 3 ++ three 1 2 4 ++ three 1 3 4 ++ three 2 3 4) neighboursA)
-    ∷ accepts 5 tableA (marked 5 (0 ∷ 1 ∷ 2 ∷ 3 ∷ [])) (add 4) (done 1 0 (0 ∷ []) (marked 5 (0 ∷ 1 ∷ 2 ∷ 3 ∷ 4 ∷ [])) [] neighboursA)
+    accepts 5 tableA (marked 5 sky) [] (done 0 4 [] (marked 5 sky) underSky neighboursA)
+    ∷ accepts 5 tableA (marked 5 sky) (add 4) (done 1 0 (0 ∷ []) (marked 5 (4 ∷ sky)) [] neighboursA)
     -- A with all rows marked: no triangle, and a remove of row 4 is taken
-    ∷ accepts 5 tableA (marked 5 (0 ∷ 1 ∷ 2 ∷ 3 ∷ 4 ∷ [])) [] (done 0 0 [] (marked 5 (0 ∷ 1 ∷ 2 ∷ 3 ∷ 4 ∷ [])) [] neighboursA)
-    ∷ accepts 5 tableA (marked 5 (0 ∷ 1 ∷ 2 ∷ 3 ∷ 4 ∷ [])) (remove 4)
-    (done 1 4 (0 ∷ []) (marked 5 (0 ∷ 1 ∷ 2 ∷ 3 ∷ [])) (three 1 2 3 ++ three 1 2 4 ++ three 1 3 4 ++ three 2 3 4) neighboursA)
+    ∷ accepts 5 tableA (marked 5 (4 ∷ sky)) [] (done 0 0 [] (marked 5 (4 ∷ sky)) [] neighboursA)
+    ∷ accepts 5 tableA (marked 5 (4 ∷ sky)) (remove 4) (done 1 4 (0 ∷ []) (marked 5 sky) underSky neighboursA)
     ∷ inwardD
-    -- A with rows 0 and 1 marked, and with rows 1 to 4: the lowest that is unlike row 0
+    -- A with rows 0 and 1 marked, and with all but row 0: the lowest that is unlike row 0
     ∷ refuses 5 tableA (marked 5 (0 ∷ 1 ∷ [])) [] 11 2
     ∷ refuses 5 tableA (marked 5 (1 ∷ 2 ∷ 3 ∷ 4 ∷ [])) [] 11 1
-    -- all outer rows alike, but the skin not clean: B with the sky and rows 9 and 10 marked, the others of (c)
+    -- all outer rows alike, but the skin not clean: B with every mark of (c) turned
     ∷ refuses 7 tableB (marked 12 (0 ∷ 1 ∷ 2 ∷ 3 ∷ 4 ∷ 5 ∷ 6 ∷ 7 ∷ 9 ∷ 10 ∷ [])) [] 12 1
-    -- no outer row, since no row holds id 0: any marks are alike
+    -- A with each id one higher: no row holds id 0, so none is outer, and any marks are alike
     ∷ accepts 6 (row 1 2 3 4 ++ row 1 2 3 5 ++ row 1 2 4 5 ++ row 1 3 4 5 ++ row 2 3 4 5) (marked 5 (0 ∷ [])) []
     (done 0 4 [] (marked 5 (0 ∷ [])) (three 2 3 4 ++ three 1 3 4 ++ three 1 2 4 ++ three 1 2 3) neighboursA)
     ∷ []
