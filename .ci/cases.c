@@ -1,6 +1,6 @@
 /* cases <JOB: whether the answers of the five cases have the header's names.
- * The job on standard input, jobs/adds.job or jobs/removes.job, must have each
- * of them once and in order. */
+ * The job on standard input, jobs/adds.job, removes.job or inward.job, must have
+ * each of them once and in order. */
 #include <stdio.h>
 #include "track.h"
 

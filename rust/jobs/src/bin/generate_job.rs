@@ -4,9 +4,10 @@ use jobs::{growth, tables, text, Random};
 use std::env;
 use std::process::ExitCode;
 
-const USAGE: &str = "generate_job FAMILY ROWS STEPS PROPOSALS SEED
+const USAGE: &str = "generate_job FAMILY ROWS STEPS PROPOSALS SEED [inside]
 FAMILY is one of `tables::each_family`, and ROWS, at least 200, its most rows.
-The starting marks are what STEPS proposals left, from empty ones.";
+The starting marks are what STEPS proposals left, from empty ones, or with
+`inside` from those with the sky inside.";
 
 fn main() -> ExitCode {
     let arguments: Vec<String> = env::args().skip(1).collect();
@@ -23,7 +24,11 @@ fn main() -> ExitCode {
 }
 
 fn generate(arguments: &[String]) -> Option<String> {
-    let [family, rows, steps, proposals, seed] = arguments else {
+    let (first, sky) = match arguments {
+        [first @ .., last] if last == "inside" => (first, 1),
+        first => (first, 0),
+    };
+    let [family, rows, steps, proposals, seed] = first else {
         return None;
     };
     let random = &mut Random::new(seed.parse().ok()?);
@@ -31,7 +36,8 @@ fn generate(arguments: &[String]) -> Option<String> {
     let mut tables = tables::each_family(most, random).into_iter();
     let (_, table) = tables.find(|(name, _)| name == family)?;
     let mut job = table.job();
-    job.marks = growth::grown_marks(&table, steps.parse().ok()?, random);
+    let start = growth::even_marks(&table, sky, 0);
+    job.marks = growth::marks_after(&table, start, steps.parse().ok()?, 90, random);
     growth::propose(&mut job, proposals.parse().ok()?, 60, random);
     let heading = format!("# generate_job {}\n", arguments.join(" "));
     Some(heading + &text::from_job(&job))
