@@ -9,7 +9,7 @@ use lib.ListN.{length, getD}
 use borrow.Author.Tests.{eq-eqb}
 use Rattle.rules.specs.Below.{lowest}
 use Rattle.rules.specs.First.{Verdict, firstMatch}
-use Rattle.rules.specs.Table.{Table, outer}
+use Rattle.rules.specs.Table.{Table, holds, outer}
 use Rattle.rules.specs.Skin.{ringless}
 use Rattle.rules.specs.Proposals.{insideIn}
 use Rattle.rules.specs.Job.{unlike, markTests}
@@ -33,15 +33,15 @@ verdictOf (Vertex v) = record { code = 12; place = v }
 abbrev pub badMark : List ℕ → ℕ → Bool
 badMark marks r = not (eqb (getD marks r 0) 0 || eqb (getD marks r 0) 1)
 
--- Outer rows come first, so a row is unlike exactly if it is outer and has not row 0's mark; row 0 is not.
+-- Outer rows come first, so a row is unlike exactly if it holds id 0, as the code asks, and has not row 0's mark; row 0 is not.
 module _ (t : Table) (marks : List ℕ) (first : OuterFirst t) where
-  pub unlike-row-0 : (r : ℕ) → unlike t marks r ≡ (outer t r && not (eqb (getD marks r 0) (getD marks 0 0)))
-  unfolding unlike
-  unlike-row-0 r = rw (lowest-first-row t first)
+  pub unlike-asked : (r : ℕ) {held : Bool} → held ≡ holds t r 0 → unlike t marks r ≡ (held && not (eqb (getD marks r 0) (getD marks 0 0)))
+  unfolding unlike outer
+  unlike-asked r e = rw (lowest-first-row t first, e)
 
   pub row-0-alike : lowest 1 (unlike t marks) ≡ none
   unfolding lowest
-  row-0-alike = searched-more 0 (unlike t marks) refl (unlike-row-0 0 ∙ rw (eq-eqb (getD marks 0 0) (getD marks 0 0) refl) (and-false (outer t 0)))
+  row-0-alike = searched-more 0 (unlike t marks) refl (unlike-asked 0 refl ∙ rw (eq-eqb (getD marks 0 0) (getD marks 0 0) refl) (and-false (holds t 0 0)))
 
 module _ (bytes marks : List ℕ) (ids : ℕ) (each : length marks ≡ rowsIn bytes) (bad : Found) (looked : placeOf bad ≡ lowest (length marks) (badMark marks)) where
   found-bad : lowest (rowsIn bytes) (badMark marks) ≡ placeOf bad

@@ -67,7 +67,7 @@ fn large_jobs() {
         if rounds >= 25 {
             let Comparer { codes, answers, .. } = comparer;
             assert!(codes[0] >= 60, "{codes:?}");
-            assert!(comparer.each_answer(20), "{answers:?}");
+            assert!(comparer.each_answer(50), "{answers:?}");
         }
     });
 }
@@ -201,37 +201,20 @@ fn every_room() {
     });
 }
 
-/// Small tables, by their most rows.
-fn small_tables(most: usize, random: &mut Random) -> Vec<Table> {
-    let all = [
-        tables::simplex(),
-        tables::join_of_rings(3, 4),
-        tables::join_of_rings(4, 4),
-        tables::cyclic(6),
-        tables::cyclic(7),
-        tables::suspension(&tables::sphere(6, random)),
-        tables::flips(11, random),
-        tables::flips(13, random),
-    ];
-    let small = all.iter().filter(|table| table.rows.len() <= most);
-    small
-        .map(|table| tables::relabelled(table, random))
-        .collect()
-}
-
 /// Every marking of small tables.
 #[test]
 fn every_marking() {
     with_stack(|| {
         let mut comparer = comparer();
         let random = &mut Random::new(8);
-        for table in small_tables(12, random) {
+        for table in tables::small(random) {
+            if table.rows.len() > 12 {
+                continue;
+            }
             let mut job = table.job();
             let buffers = random.buffers(job.rooms());
-            for marking in 0..1 << job.rows.len() {
-                for (row, mark) in job.marks.iter_mut().enumerate() {
-                    *mark = (marking >> row & 1) as u8;
-                }
+            for marks in growth::every_marking(&table) {
+                job.marks = marks;
                 comparer.compare("marking", "every marking", &job.bytes(), &buffers);
             }
         }
@@ -241,32 +224,25 @@ fn every_marking() {
     });
 }
 
-/// Every marking of the finite rows of small tables under either sky, and from
-/// each clean one every single proposal.
+/// Every start of small tables, under either sky, and from each clean one every
+/// single proposal.
 #[test]
 fn every_start_and_proposal() {
     with_stack(|| {
         let mut comparer = comparer();
         let random = &mut Random::new(5);
-        for table in small_tables(usize::MAX, random) {
-            for sky in [0, 1] {
-                compare_starts(&mut comparer, &table, sky, random);
-            }
+        for table in tables::small(random) {
+            compare_starts(&mut comparer, &table, random);
         }
         comparer.report("every start and proposal");
+        assert_eq!(comparer.unlike, [0, 0]);
     });
 }
 
-fn compare_starts(comparer: &mut Comparer, table: &Table, sky: u8, random: &mut Random) {
-    let finite: Vec<usize> = (0..table.rows.len())
-        .filter(|&row| table.rows[row][0] != 0)
-        .collect();
-    for marking in 0..1_usize << finite.len() {
+fn compare_starts(comparer: &mut Comparer, table: &Table, random: &mut Random) {
+    for marks in growth::every_start(table) {
         let mut job = table.job();
-        job.marks = growth::even_marks(table, sky, 0);
-        for (bit, &row) in finite.iter().enumerate() {
-            job.marks[row] = (marking >> bit & 1) as u8;
-        }
+        job.marks = marks;
         let buffers = random.buffers(Rooms::exact(job.rows.len(), 1));
         let clean_before = comparer.codes[0];
         comparer.compare("start", "every start", &job.bytes(), &buffers);

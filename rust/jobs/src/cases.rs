@@ -64,29 +64,38 @@ fn start_marks(table: &Table, random: &mut Random) -> (String, Vec<u8>) {
         let steps = random.within(1, 2 * rows);
         marks_after(table, even_marks(table, sky, finite), steps, adds, random)
     };
-    let (start, mut marks) = match random.below(20) {
+    let (start, marks) = match random.below(20) {
         0..6 => ("empty", even_marks(table, sky, 0)),
         6..10 => ("grown", after(0, 90, random)),
         // There an add often has much of the inside about it.
         10..14 => ("dug", after(1, 10, random)),
         14..16 => ("full", even_marks(table, sky, 1)),
-        16 | 17 => ("grown with some turned", after(0, 90, random)),
-        18 => ("full with some turned", even_marks(table, sky, 1)),
+        16 | 17 => {
+            let grown = after(0, 90, random);
+            ("grown with some turned", some_turned(table, grown, random))
+        }
+        18 => {
+            let full = even_marks(table, sky, 1);
+            ("full with some turned", some_turned(table, full, random))
+        }
         _ => {
             let percent = random.below(101);
             ("random", random_marks(table, sky, percent, random))
         }
     };
-    if start.ends_with("turned") {
-        for _ in 0..random.within(1, 3) {
-            let row = random.below(rows);
-            if table.rows[row][0] != 0 {
-                marks[row] ^= 1;
-            }
-        }
-    }
     let side = ["outside", "inside"][usize::from(sky)];
     (format!("{start}, the sky {side}"), marks)
+}
+
+/// The marks with those of some finite rows turned.
+fn some_turned(table: &Table, mut marks: Vec<u8>, random: &mut Random) -> Vec<u8> {
+    for _ in 0..random.within(1, 3) {
+        let row = random.below(table.rows.len());
+        if table.rows[row][0] != 0 {
+            marks[row] ^= 1;
+        }
+    }
+    marks
 }
 
 /// Changes what the job says; the layout stays right.

@@ -47,6 +47,20 @@ pub fn random_marks(table: &Table, outer: u8, percent: usize, random: &mut Rando
     table.rows.iter().map(&mut mark).collect()
 }
 
+/// Every marking of a small table.
+pub fn every_marking(table: &Table) -> impl Iterator<Item = Vec<u8>> {
+    let rows = table.rows.len();
+    let marking = move |bits: usize| (0..rows).map(|row| (bits >> row & 1) as u8).collect();
+    (0..1 << rows).map(marking)
+}
+
+/// Every one of which the outer rows, the first of the table, are alike.
+pub fn every_start(table: &Table) -> impl Iterator<Item = Vec<u8>> {
+    let outer = table.rows.partition_point(|row| row[0] == 0);
+    let alike = move |marks: &Vec<u8>| marks[..outer].iter().all(|&mark| mark == marks[0]);
+    every_marking(table).filter(alike)
+}
+
 /// Appends `count` proposals of every kind to an accepted job. Of the useful
 /// ones, `adds` in 100 are adds. On a refused job they are blind.
 pub fn propose(job: &mut Job, count: usize, adds: usize, random: &mut Random) {

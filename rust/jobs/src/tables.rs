@@ -141,6 +141,24 @@ pub fn glued(first: &Table, second: &Table, shared: usize, random: &mut Random) 
     identified(&side_by_side(first, second), &pairs).map(|table| compacted(&table))
 }
 
+/// Tables so small that every marking of their rows can be tried.
+pub fn small(random: &mut Random) -> Vec<Table> {
+    let tables = [
+        simplex(),
+        join_of_rings(3, 4),
+        join_of_rings(4, 4),
+        cyclic(6),
+        cyclic(7),
+        suspension(&sphere(6, random)),
+        flips(11, random),
+        flips(13, random),
+    ];
+    tables
+        .iter()
+        .map(|table| relabelled(table, random))
+        .collect()
+}
+
 /// A table of each family with at most `most` rows, at least 200, and not many
 /// fewer. Ids stand in any order, but for Delaunay's, whose id 0 is infinite.
 pub fn each_family(most: usize, random: &mut Random) -> Vec<(&'static str, Table)> {

@@ -80,6 +80,7 @@ fn listings_begin_as_the_documents_say() {
         ("g", "refused 5 4"),
         ("h", "refused 6 4"),
         ("i", "refused 8 0"),
+        ("inward", "done 14 7 6"),
         ("j", "refused 9 0"),
         ("n2049", "refused 2 0"),
         ("n4", "refused 2 0"),

@@ -3,7 +3,7 @@
 //! AGREE_SEED the number of the first.
 
 use common::{Buffers, Outcome, Rooms};
-use jobs::{cases, growth, tables, Job, Random, Table};
+use jobs::{cases, growth, tables, Job, Random};
 
 /// Runs both on the same buffers, requires the same results, and returns them.
 fn agree(kind: &str, job: &[u8], buffers: Buffers) -> (Outcome, Buffers) {
@@ -53,38 +53,13 @@ fn random_jobs() {
     }
 }
 
-/// Small tables with few finite rows.
-fn small_tables() -> Vec<Table> {
-    let random = &mut Random::new(5);
-    let mut small = vec![tables::simplex(), tables::join_of_rings(3, 4)];
-    let more = [
-        tables::join_of_rings(4, 4),
-        tables::cyclic(6),
-        tables::cyclic(7),
-        tables::suspension(&tables::sphere(6, random)),
-        tables::flips(11, random),
-        tables::flips(13, random),
-    ];
-    for table in &more {
-        small.push(tables::relabelled(table, random));
-    }
-    small
-}
-
-/// Every marking of the finite rows of small tables, under either sky.
+/// Every start of small tables, under either sky.
 #[test]
 fn every_start() {
-    for table in small_tables() {
-        let finite: Vec<usize> = (0..table.rows.len())
-            .filter(|&r| table.rows[r][0] != 0)
-            .collect();
-        assert!(finite.len() <= 10, "{}", finite.len());
-        for marking in 0..2 << finite.len() {
-            let mut job = table.job();
-            job.marks = growth::even_marks(&table, (marking & 1) as u8, 0);
-            for (bit, &row) in finite.iter().enumerate() {
-                job.marks[row] = (marking >> (bit + 1) & 1) as u8;
-            }
+    for table in tables::small(&mut Random::new(5)) {
+        let mut job = table.job();
+        for marks in growth::every_start(&table) {
+            job.marks = marks;
             agree("every start", &job.bytes(), Buffers::zeros(job.rooms()));
         }
     }
@@ -95,33 +70,33 @@ fn every_start() {
 #[test]
 fn every_marking() {
     let mut unlike = 0;
-    for table in small_tables() {
+    for table in tables::small(&mut Random::new(8)) {
         if table.rows.len() > 12 {
             continue;
         }
-        for marking in 0..1 << table.rows.len() {
-            let mut job = table.job();
-            for (row, mark) in job.marks.iter_mut().enumerate() {
-                *mark = (marking >> row & 1) as u8;
-            }
+        let mut job = table.job();
+        let outer = |r: &usize| job.rows[*r].contains(&0);
+        let outer: Vec<usize> = (0..job.rows.len()).filter(outer).collect();
+        for marks in growth::every_marking(&table) {
+            job.marks = marks;
             let (outcome, _) = agree("every marking", &job.bytes(), Buffers::zeros(job.rooms()));
-            let mut outer = (0..).zip(&job.rows).filter(|(_, row)| row.contains(&0));
-            let sky = job.sky();
-            let place = outer.find(|&(r, _): &(usize, _)| Some(job.marks[r]) != sky);
-            match place {
-                Some((r, _)) => assert_eq!(outcome, Outcome::refused(11, r as u32)),
+            let differs = |r: &&usize| job.marks[**r] != job.marks[outer[0]];
+            match outer.iter().find(differs) {
+                Some(&place) => {
+                    assert_eq!(outcome, Outcome::refused(11, place as u32));
+                    unlike += 1;
+                }
                 None => assert_ne!(outcome.code, 11),
             }
-            unlike += usize::from(place.is_some());
         }
     }
     assert!(unlike > 1_000, "{unlike}");
 }
 
-/// Each byte of jobs A and B changed, and each length.
+/// Each byte of jobs A, A with the sky inside, and B changed, and each length.
 #[test]
 fn every_byte_and_length() {
-    for name in ["a", "b"] {
+    for name in ["a", "sky", "b"] {
         let folder = concat!(env!("CARGO_MANIFEST_DIR"), "/../../jobs");
         let bytes = std::fs::read(format!("{folder}/{name}.job")).expect("a stored job");
         let buffers = Random::new(6).buffers(Rooms::exact(13, 9));

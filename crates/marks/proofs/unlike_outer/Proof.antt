@@ -1,6 +1,5 @@
-use Rattle.rules.specs.Table.{outer}
 use borrow.Author.Needs.{needs}
-use Rattle.marks.specs.Start.{unlike-row-0, row-0-alike}
+use Rattle.marks.specs.Start.{unlike-asked, row-0-alike}
 use Rattle.table.specs.Rows.{tableIn}
 use Prim.Native.Nat.{_-_}
 use mathlib.Core.Option.{none}
@@ -21,18 +20,16 @@ loop-holds : tie.Need-loop-holds Inv-loop μ-loop
 loop-holds c = row-0-alike _ _ (c .before .before .before .pre .1)
 
 returns : tie.Need-returns Inv-loop μ-loop
-unfolding outer
 returns c =
     let start = c .before .before .before .before .before .before .before .before .before in
     sym (search-stops _ _ (unlike (tableIn _) _) (c .before .before .before .before .before .loop .inv) (search needs)
-    (unlike-row-0 _ _ (start .pre .1) _ ∙ rw (← c .before .before .before .holds .ensures) (c .if1 .taken)))
+    (unlike-asked _ _ (start .pre .1) _ (c .before .before .before .holds .ensures) ∙ c .if1 .taken))
 
 loop-again : tie.Need-loop-again Inv-loop μ-loop
-unfolding outer
 loop-again c =
     let start = c .before .before .before .before .before .before .before .before .before in
     searched-more _ (unlike (tableIn _) _) (c .before .before .before .before .before .loop .inv)
-    (unlike-row-0 _ _ (start .pre .1) _ ∙ rw (← c .before .before .before .holds .ensures) (c .if1 .left))
+    (unlike-asked _ _ (start .pre .1) _ (c .before .before .before .holds .ensures) ∙ c .if1 .left)
 
 returns-2 : tie.Need-returns-2 Inv-loop μ-loop
 returns-2 c = sym (search-ends _ _ (unlike (tableIn _) _) (c .before .loop .inv) (search needs))
