@@ -11,22 +11,26 @@
 #include <stddef.h>
 #include <stdint.h>
 
-/* A job has V vertex ids, N rows, a mark for each row, and P proposals. Its
- * file, in words of four bytes, low byte first:
+/* A job has V vertex ids, N rows, a mark for each row, P proposals, and it may
+ * have a point for each id. Its file, in words of four bytes, low byte first:
  *
  *     at byte         there stand
- *     0               V, N, P, 32, 32 + 16N, 32 + 17N, 32 + 17N + 8P, 0
+ *     0               V, N, P, 32, 32 + 16N, 32 + 17N, the length of the file,
+ *                     and 0 without points or 1 with points
  *     32              N rows of four words, the ids of one tetrahedron at its
  *                     corners 0 to 3
  *     32 + 16N        N marks of one byte, 1 inside or 0 outside
  *     32 + 17N        P proposals of two words, row number and kind, 1 add or
  *                     2 remove
- *     32 + 17N + 8P   nothing: the file ends
+ *     32 + 17N + 8P   without points nothing: the file ends; with points V of
+ *                     them, by id, three coordinates x, y and z each, a signed
+ *                     number of two bytes, low byte first
  *
  * The ids of a row rise strictly and are below V; the rows rise strictly in
  * dictionary order. Id 0 is the infinite vertex; a row that holds it is an outer
  * row. Outer rows are all outside or all inside. The skin is the triangles that
- * are in exactly one inside row; none of them holds id 0.
+ * are in exactly one inside row; none of them holds id 0. A finite row is one
+ * that is not outer.
  *
  * The limits of V, N and P: */
 #define TRACK_FEWEST_IDS 5
@@ -36,18 +40,29 @@
 #define TRACK_FEWEST_PROPOSALS 0
 #define TRACK_MOST_PROPOSALS 1024
 
-/* The length of a job and of what must be lent for it, for N and P within their
- * limits. Each is in elements, bytes or 32-bit words as the parameter's type
- * says. */
+/* A coordinate is in units of 1/16 metre, within these limits, so under 64
+ * metres. The point of id 0 is three zeros. */
+#define TRACK_UNITS_PER_METRE 16
+#define TRACK_LEAST_COORDINATE (-1023)
+#define TRACK_MOST_COORDINATE 1023
+
+/* The length of a job without points, what points add to it, and the length of
+ * what must be lent for a job, with points or without, for V, N and P within
+ * their limits. Each is in elements, bytes or 32-bit words as the parameter's
+ * type says. */
 #define TRACK_HEADER_LEN 32
 #define TRACK_JOB_LEN(n, p) (TRACK_HEADER_LEN + 17 * (n) + 8 * (p))
+#define TRACK_POINTS_LEN(v) (6 * (v))
 #define TRACK_ANSWERS_LEN(p) (p)
 #define TRACK_FINAL_MARKS_LEN(n) (n)
 #define TRACK_TRIANGLES_LEN(n) (6 * (n))
 #define TRACK_WORK_LEN(n) (4 * (n))
 
-/* The same for the largest job: buffers of these lengths serve every job. */
-#define TRACK_MOST_JOB_LEN TRACK_JOB_LEN(TRACK_MOST_ROWS, TRACK_MOST_PROPOSALS)
+/* The same for the largest job, which has points: buffers of these lengths serve
+ * every job. */
+#define TRACK_MOST_JOB_LEN \
+    (TRACK_JOB_LEN(TRACK_MOST_ROWS, TRACK_MOST_PROPOSALS) \
+     + TRACK_POINTS_LEN(TRACK_MOST_IDS))
 #define TRACK_MOST_ANSWERS_LEN TRACK_ANSWERS_LEN(TRACK_MOST_PROPOSALS)
 #define TRACK_MOST_FINAL_MARKS_LEN TRACK_FINAL_MARKS_LEN(TRACK_MOST_ROWS)
 #define TRACK_MOST_TRIANGLES_LEN TRACK_TRIANGLES_LEN(TRACK_MOST_ROWS)
@@ -59,6 +74,24 @@ enum track_kind {
     TRACK_KIND_REMOVE = 2
 };
 
+/* How the ids of a skin triangle stand in the list. Either way it has the same
+ * triangles in the same places.
+ *
+ * Rising ids say nothing of the side on which the inside lies. Outward, the
+ * lowest id is first, and for the triangle a, b, c the normal (b - a) x (c - a)
+ * points away from the inside: seen from outside, a, b and c turn
+ * counter-clockwise where x, y and z are right-handed. So it points out of the
+ * ground where the ground is inside, and into the ground where the air is.
+ * Exactly: for the fourth corner d of the inside row the product
+ * (b - a) x (c - a) . (d - a) is below zero, so d lies behind; where the inside
+ * row is outer, the product for the fourth corner of the outside row is above
+ * zero, so that lies in front. Each edge of the skin is then passed once each
+ * way. A job without points is listed with rising ids, whatever is asked for. */
+enum track_order {
+    TRACK_RISING = 0,
+    TRACK_OUTWARD = 1
+};
+
 /* A call takes at most so many bytes of stack, what the caller passes on the
  * stack included. With less the system stops the program, unless it is a thread
  * whose guard area is smaller than what is missing: then memory beside its
@@ -68,7 +101,7 @@ enum track_kind {
 /* What each word of the outcome is. */
 enum track_outcome {
     TRACK_OUTCOME_CODE,      /* an enum track_code */
-    TRACK_OUTCOME_PLACE,     /* the row or vertex that is named with the code */
+    TRACK_OUTCOME_PLACE,     /* the row or id that is named with the code */
     TRACK_OUTCOME_TAKEN,     /* how many proposals were taken */
     TRACK_OUTCOME_TRIANGLES, /* how many triangles the skin has at the end */
     TRACK_OUTCOME_LEN        /* the number of words */
@@ -99,9 +132,18 @@ enum track_code {
     TRACK_CODE_OUTER = 11,   /* outer rows with unlike marks; place: the lowest
                                 outer row whose mark differs from that of the
                                 lowest outer row */
-    TRACK_CODE_RING = 12     /* the starting skin is not clean; place: the
+    TRACK_CODE_RING = 12,    /* the starting skin is not clean; place: the
                                 lowest skin vertex whose far edges do not form
                                 one ring */
+    /* With points only, whatever order is asked for. */
+    TRACK_CODE_POINT = 13,   /* a coordinate outside its limits, or the point of
+                                id 0 not three zeros; place: the lowest such id,
+                                also one that no row holds */
+    TRACK_CODE_FLAT = 14,    /* a finite row of zero volume; place: the lowest
+                                such row */
+    TRACK_CODE_FOLDED = 15   /* two finite neighbours on the same side of their
+                                triangle; place: the lowest row in such a
+                                pair */
 };
 
 /* Proposal answers. The first that applies is given, TAKEN where no other does;
@@ -129,8 +171,8 @@ enum track_answer {
 extern "C" {
 #endif
 
-/* Runs a job: checks its table and its marks, answers its proposals and lists
- * the skin.
+/* Runs a job: checks its table, its marks and its points, answers its proposals
+ * and lists the skin.
  *
  * Every call returns, whatever bytes the job has and whatever the buffers hold.
  * It reads and writes nothing outside the lengths given, takes no memory but
@@ -144,22 +186,25 @@ extern "C" {
  * A refusal leaves answers, final_marks and triangles as they were.
  *
  * job          the bytes of the file, only read
+ * outward      TRACK_RISING for rising ids; anything else asks for outward
+ *              triangles
  * answers      TRACK_ANSWERS_LEN bytes. Code 0 leaves the P answers, an enum
  *              track_answer each, in the order of the proposals.
  * final_marks  TRACK_FINAL_MARKS_LEN bytes. Code 0 leaves the N marks after the
  *              last proposal.
  * triangles    TRACK_TRIANGLES_LEN words. Code 0 leaves the skin after the last
- *              proposal, three rising ids for each triangle, as many triangles
- *              as the outcome says: by inside row, then by the corner of the
- *              row that the triangle leaves out, 0 to 3. There are at most 2N.
+ *              proposal, three ids for each triangle in the order asked for,
+ *              as many triangles as the outcome says: by inside row, then by
+ *              the corner of the row that the triangle leaves out, 0 to 3.
+ *              There are at most 2N.
  * work         TRACK_WORK_LEN words. Code 0 leaves the neighbour list there:
  *              word 4r + c is the row across the triangle of row r that leaves
  *              out its corner c. Codes 1 to 4 leave work as it was; codes 5 to
- *              12 leave zero in its first 4N words.
+ *              15 leave zero in its first 4N words.
  * outcome      TRACK_OUTCOME_LEN words, all written by every call; never null
  *
  * Of each buffer, what stands behind these bytes and words is never changed. */
-void track_run(const uint8_t *job, size_t job_len,
+void track_run(const uint8_t *job, size_t job_len, uint32_t outward,
                uint8_t *answers, size_t answers_len,
                uint8_t *final_marks, size_t final_marks_len,
                uint32_t *triangles, size_t triangles_len,

@@ -1,24 +1,29 @@
--- The three demands, whole, of one run: the bytes of a job file, the four buffers as lent, what was returned, and the buffers as left;
--- and what document 02 promises beside them. `demands::run`, which is `track::run`, has them for its contract.
+-- The three demands, whole, of one run: the bytes of a job file, whether outward triangles were asked for, the four buffers as lent, what
+-- was returned, and the buffers as left; and what document 02 promises beside them. `demands::run`, which is `track::run`, has them for its
+-- contract.
 use mathlib.Core.Path.{_≡_}
-use mathlib.Core.Logic.{_↔_, _≢_}
+use mathlib.Core.Logic.{_⊎_, _↔_, _≢_}
+use mathlib.Core.Bool.{Bool, true, false}
+use mathlib.Core.Option.{some, none}
 use mathlib.Core.List.{List, _++_, flatten}
 use Prim.Native.Nat.{ℕ, _+_, _*_, _≤_, _<_}
 use lib.ListN.{length, getD, take, drop, replicate}
 use Rattle.rules.specs.Table.{neighbourList}
+use Rattle.rules.specs.Points.{Point}
 use Rattle.rules.specs.Proposals.{Proposal, RefusedByCases, taken}
-use Rattle.rules.specs.Job.{track, headerOf, Job, jobOf, answersOf, standing, finalOf, skinWith, Lent, workRoom, written, codes, run}
+use Rattle.rules.specs.Job.{track, headerOf, Job, jobOf, answersOf, standing, finalOf, skinWith, listedWith, Lent, workRoom, written, codes, run}
 use Rattle.rules.specs.Made.{withProposals, cutTo, remade}
-use Rattle.rules.specs.Laws.Count.{TheOther}
+use Rattle.rules.specs.Laws.Count.{ExactlyOne, TheOther}
 use Rattle.rules.specs.Laws.Lists.{Among, Distinct}
 use Rattle.rules.specs.Laws.First.{conditionAt, FirstOf}
 use Rattle.rules.specs.Reading.Neighbours.{Side}
-use Rattle.rules.specs.Reading.Skin.{Inside, BetweenSides}
+use Rattle.rules.specs.Reading.Skin.{Inside, BetweenSides, SkinTriangle}
 use Rattle.rules.specs.Reading.Outer.{Outer, OuterAlike}
 use Rattle.rules.specs.Reading.Ring.{Clean}
 use Rattle.rules.specs.Reading.Answers.{TrianglesOnSkin, answerConditions}
 use Rattle.rules.specs.Reading.Codes.{RoomShort, jobConditions}
 use Rattle.rules.specs.Reading.Listing.{ThreeRising, SideTriangle, InOrder}
+use Rattle.rules.specs.Reading.Outward.{listedId, Passes, FacesOutward, AsRising}
 use Rattle.manifold.specs.Steps.{PassesEarlier, flipped, undoing}
 use Rattle.track.specs.declared.Outcome.{Outcome}
 
@@ -38,7 +43,7 @@ PassesAt job k = PassesEarlier (job .table) (standing job k) (proposalAt job k)
 abbrev pub OnSkinAt : Job → ℕ → ℕ → Type 0
 OnSkinAt job k f = TrianglesOnSkin (job .table) (Inside (standing job k)) (proposalAt job k .row) f
 
-module _ (bytes : List ℕ) (before : Lent) (o : Outcome) (after : Lent) where
+module _ (bytes : List ℕ) (outward : Bool) (before : Lent) (o : Outcome) (after : Lent) where
   abbrev pub job : Job
   job = jobOf track bytes
 
@@ -49,6 +54,10 @@ module _ (bytes : List ℕ) (before : Lent) (o : Outcome) (after : Lent) where
   abbrev pub proposals : ℕ
   proposals = headerOf bytes .proposals
 
+  -- the skin at the end, in the order asked for; without points, or where outward is not asked for, it is `skinWith` (`OutwardSkin`)
+  abbrev pub listed : List (List ℕ)
+  listed = listedWith outward job (finalOf job)
+
   -- byte k of answers
   abbrev pub answerAt : ℕ → ℕ
   answerAt k = getD (after .answers) k 0
@@ -56,7 +65,7 @@ module _ (bytes : List ℕ) (before : Lent) (o : Outcome) (after : Lent) where
   -- Demand 1. Every job file gets an answer, damaged ones too; the refusals, their order and the contents of each lent buffer after one
   -- are exactly the listed ones.
   pub record Demand1 : Type 0 where
-    -- an answer always: a code from 0 to 12
+    -- an answer always: a code from 0 to 15
     pub answered : o .code ≤ codes
     -- code 1 + i at a place, exactly if row 1 + i of the table of codes holds there and no row before it holds anywhere
     pub refused-exactly : (i place : ℕ) → i < codes → ((o .code ≡ 1 + i) × (o .place ≡ place)) ↔ FirstOf (jobConditions track bytes before) i place
@@ -65,7 +74,7 @@ module _ (bytes : List ℕ) (before : Lent) (o : Outcome) (after : Lent) where
     -- a refusal gives zero for both counts, and changes nothing in answers, final marks and triangles
     pub refusal-leaves : o .code ≢ 0
         → (o .taken ≡ 0) × (o .triangles ≡ 0) × (after .answers ≡ before .answers) × (after .finalMarks ≡ before .finalMarks) × (after .triangles ≡ before .triangles)
-    -- codes 1 to 4 don't touch work; codes 5 to 12 leave zero in its first 4N words and the rest unchanged
+    -- codes 1 to 4 don't touch work; codes 5 to 15 leave zero in its first 4N words and the rest unchanged
     pub work-kept : o .code ≢ 0 → o .code ≤ 4 → after .work ≡ before .work
     pub work-cleared : 5 ≤ o .code → after .work ≡ replicate (workRoom track (headerOf bytes)) 0 ++ drop (workRoom track (headerOf bytes)) (before .work)
 
@@ -83,7 +92,7 @@ module _ (bytes : List ℕ) (before : Lent) (o : Outcome) (after : Lent) where
     pub taken-flips : (k : ℕ) → k < proposals → answerAt k ≡ 0 → standing job (k + 1) ≡ flipped (standing job k) (proposalAt job k)
     pub refused-keeps : (k : ℕ) → k < proposals → answerAt k ≢ 0 → standing job (k + 1) ≡ standing job k
     pub ends : finalOf job ≡ standing job proposals
-    -- a triangle is listed exactly if of the two rows that hold it one is inside and one outside at the end, whichever of them names it
+    -- The list of rising ids, which `as-rising` ties to the one that is left: a triangle is listed exactly if of the two rows that hold it one is inside and one outside at the end, whichever of them names it
     pub listed-exactly : (ids : List ℕ) → Among ids (skinWith job (finalOf job)) ↔ SideTriangle (job .table) (Inside (finalOf job)) ids
     -- its ids rise, it is listed once, and the list goes by inside row, then left-out corner
     pub ids-rise : (ids : List ℕ) → Among ids (skinWith job (finalOf job)) → ThreeRising ids
@@ -98,7 +107,7 @@ module _ (bytes : List ℕ) (before : Lent) (o : Outcome) (after : Lent) where
     -- the answers, the final marks, the skin, three ids each, and the neighbour list stand at the front, and all after them is unchanged
     pub answers-left : after .answers ≡ written (answersOf job) (before .answers)
     pub marks-left : after .finalMarks ≡ written (finalOf job) (before .finalMarks)
-    pub triangles-left : after .triangles ≡ written (flatten (skinWith job (finalOf job))) (before .triangles)
+    pub triangles-left : after .triangles ≡ written (flatten listed) (before .triangles)
     pub work-left : after .work ≡ written (neighbourList (job .table)) (before .work)
 
   -- the final marks as lent back, and the taken proposals backwards with add and remove exchanged: taken are those whose byte in answers is 0
@@ -128,13 +137,13 @@ module _ (bytes : List ℕ) (before : Lent) (o : Outcome) (after : Lent) where
     pub as-many : length backwards ≡ o .taken
     pub no-more : length backwards ≤ proposals
     -- the job of the same rows with the final marks and these proposals is run, all its answers are 0, and it leaves the starting marks
-    pub undone : (lent : Lent) → (RoomShort track (withProposals (headerOf bytes) (length backwards)) lent → ⊥)
-        → (run track (remade track marksBack backwards bytes) lent .code ≡ 0)
-        × (run track (remade track marksBack backwards bytes) lent .left .answers ≡ written (replicate (length backwards) 0) (lent .answers))
-        × (run track (remade track marksBack backwards bytes) lent .left .finalMarks ≡ written (job .marks) (lent .finalMarks))
+    pub undone : (choice : Bool) (lent : Lent) → (RoomShort track (withProposals (headerOf bytes) (length backwards)) lent → ⊥)
+        → (run track choice (remade track marksBack backwards bytes) lent .code ≡ 0)
+        × (run track choice (remade track marksBack backwards bytes) lent .left .answers ≡ written (replicate (length backwards) 0) (lent .answers))
+        × (run track choice (remade track marksBack backwards bytes) lent .left .finalMarks ≡ written (job .marks) (lent .finalMarks))
     -- growing stops when the time is up: the job cut to its first k proposals is run, and leaves the marks that stand after them
-    pub cut : (k : ℕ) → k ≤ proposals → (lent : Lent) → (RoomShort track (withProposals (headerOf bytes) k) lent → ⊥)
-        → (run track (cutTo track k bytes) lent .code ≡ 0) × (run track (cutTo track k bytes) lent .left .finalMarks ≡ written (standing job k) (lent .finalMarks))
+    pub cut : (k : ℕ) → k ≤ proposals → (choice : Bool) (lent : Lent) → (RoomShort track (withProposals (headerOf bytes) k) lent → ⊥)
+        → (run track choice (cutTo track k bytes) lent .code ≡ 0) × (run track choice (cutTo track k bytes) lent .left .finalMarks ≡ written (standing job k) (lent .finalMarks))
 
   -- Document 02 (ii): the skin of an accepted job is finite. At every step its outer rows are alike, all inside or all outside; so no skin
   -- triangle holds id 0, and of the two rows at a skin triangle, one inside and one outside, at most one is outer.
@@ -146,8 +155,25 @@ module _ (bytes : List ℕ) (before : Lent) (o : Outcome) (after : Lent) where
     -- of the ids that are left at the front of triangles none is 0
     pub listed-finite : Among 0 (take (3 * o .triangles) (after .triangles)) → ⊥
 
+  -- Document 02 (iii): the skin in the order asked for. Outward triangles tell which side is up. There are points exactly if word 7 is 1,
+  -- and they stand behind the proposals (`points-exactly` and `point-stands` of `Reading.File`).
+  pub record OutwardSkin : Type 0 where
+    -- rising, unless outward was asked for and there are points
+    pub rising-unless : (outward ≡ false) ⊎ (job .points ≡ none) → listed ≡ skinWith job (finalOf job)
+    -- the same triangles in the same order, in some of them the last two ids exchanged
+    pub as-rising : AsRising listed (skinWith job (finalOf job))
+    -- where outward was asked for, each of the triangles left has its inside row's fourth corner behind it, or, where that row is outer, its
+    -- outside row's fourth corner in front
+    pub faces-outward : outward ≡ true → (at : ℕ → Point) → job .points ≡ some at → (k : ℕ) → k < o .triangles
+        → FacesOutward (job .table) at (Inside (finalOf job)) (listedId (after .triangles) k 0) (listedId (after .triangles) k 1) (listedId (after .triangles) k 2)
+    -- and each edge x y of a skin triangle is passed once each way: exactly one of the triangles left passes from x to y, and exactly one
+    -- from y to x
+    pub each-way : outward ≡ true → (at : ℕ → Point) → job .points ≡ some at → (x y w : ℕ) → SkinTriangle (job .table) (Inside (finalOf job)) x y w
+        → ExactlyOne (o .triangles) (Passes (after .triangles) x y) × ExactlyOne (o .triangles) (Passes (after .triangles) y x)
+
   pub record Demands : Type 0 where
     pub one : Demand1
     pub two : o .code ≡ 0 → Demand2
     pub three : o .code ≡ 0 → Demand3
     pub finite : o .code ≡ 0 → FiniteSkin
+    pub outwards : o .code ≡ 0 → OutwardSkin

@@ -1,47 +1,70 @@
 -- Document 02 (ii) is kept: the skin is finite.
 use mathlib.Core.Path.{_≡_, refl, sym, ap, _∙_, subst}
+use mathlib.Core.Bool.{Bool}
 use mathlib.Core.List.{List, flatten}
 use Prim.Native.Nat.{ℕ, _*_}
-use lib.ListN.{take}
+use lib.ListN.{length, take}
 use lib.Seq.{take-at}
+use Rattle.rules.specs.Skin.{triangle}
+use Rattle.rules.specs.Outward.{triangleAs}
 use Rattle.rules.specs.Proposals.{insideIn}
-use Rattle.rules.specs.Job.{track, headerOf, Job, jobOf, standing, finalOf, skinWith, Lent, written, run}
+use Rattle.rules.specs.Job.{track, headerOf, Job, jobOf, standing, finalOf, listedWith, Lent, written, run}
 use Rattle.rules.specs.Laws.Lists.{Among, flatten-in}
 use Rattle.rules.specs.Laws.Job.{job-corners}
 use Rattle.rules.specs.Reading.Outer.{OuterAlike, one-outer}
-use Rattle.rules.specs.Reading.Room.{skin-words}
+use Rattle.rules.specs.Reading.Skin.{inside-reads}
+use Rattle.rules.specs.Reading.Room.{skin-same-length, skin-listed, skin-words}
 use Rattle.rules.specs.Reading.Listing.{finite-skin}
+use Rattle.rules.specs.Reading.Outward.{three-each, listed-ids}
 use Rattle.manifold.specs.Jobs.{job-alike}
 use Rattle.track.specs.declared.Outcome.{Outcome}
 use Rattle.track.specs.Outcomes.{result}
 use Rattle.demands.specs.Demands.{Demand2, FiniteSkin}
 use Rattle.demands.specs.Grown.{job-accepted, demand-2}
 
-module _ (bytes : List ℕ) (before : Lent) {o : Outcome} {after : Lent} (ran : result o after ≡ run track bytes before) (zero-code : o .code ≡ 0) where
+module _ (bytes : List ℕ) (outward : Bool) (before : Lent) {o : Outcome} {after : Lent} (ran : result o after ≡ run track outward bytes before) (zero-code : o .code ≡ 0) where
   abbrev job : Job
   job = jobOf track bytes
 
   alike : (k : ℕ) → OuterAlike (job .table) (standing job k)
-  alike = job-alike track bytes before refl (job-accepted bytes before ran zero-code)
+  alike = job-alike track outward bytes before refl (job-accepted bytes outward before ran zero-code)
 
-  grown : Demand2 bytes before o after
-  grown = demand-2 bytes before ran zero-code
+  grown : Demand2 bytes outward before o after
+  grown = demand-2 bytes outward before ran zero-code
 
-  -- the front of triangles is the skin
-  listed : take (3 * o .triangles) (after .triangles) ≡ flatten (skinWith job (finalOf job))
+  -- as many triangles are left as were counted
+  pub listed-many : length (listedWith outward job (finalOf job)) ≡ o .triangles
+  listed-many = skin-same-length (job .table) (insideIn (finalOf job)) _ ∙ sym (grown .triangles-counted)
+
+  -- the front of triangles is the skin in the order asked for
+  listed : take (3 * o .triangles) (after .triangles) ≡ flatten (listedWith outward job (finalOf job))
   unfolding written
   listed =
       ap (take (3 * o .triangles)) (grown .triangles-left)
-      ∙ take-at (flatten (skinWith job (finalOf job))) _ _
-      (skin-words (job .table) (insideIn (finalOf job)) (job-corners track bytes) ∙ ap (λ (n : ℕ). 3 * n) (sym (grown .triangles-counted)))
+      ∙ take-at (flatten (listedWith outward job (finalOf job))) _ _
+      (skin-words (job .table) (insideIn (finalOf job)) _ (three-each (job .table) outward (job .points) (job-corners track bytes)) ∙ ap (λ (n : ℕ). 3 * n) listed-many)
 
-  pub skin-finite : FiniteSkin bytes before o after
+  pub skin-finite : FiniteSkin bytes outward before o after
   skin-finite = record {
     outer-alike = alike;
     no-infinite-vertex = λ k. finite-skin (job .table) (standing job k) (job-corners track bytes) (alike k);
     one-outer = λ k r c b. one-outer (job .table) (standing job k) (alike k) b;
     listed-finite = λ m.
-        let (ids, i, zero) = flatten-in 0 (skinWith job (finalOf job)) (subst (λ (xs : List ℕ). Among 0 xs) listed m) in
-        finite-skin (job .table) (finalOf job) (job-corners track bytes) (subst (OuterAlike (job .table)) (sym (grown .ends)) (alike (headerOf bytes .proposals))) ids
-        (grown .listed-exactly ids .0 i) zero;
+        let t = job .table in
+        let told = inside-reads (finalOf job) in
+        let (ids, i, zero) = flatten-in 0 (listedWith outward job (finalOf job)) (subst (λ (xs : List ℕ). Among 0 xs) listed m) in
+        let x = skin-listed t (insideIn (finalOf job)) (triangleAs t outward (job .points)) told ids .0 i in
+        let rising = triangle t (x .row) (x .corner) in
+        let stands = skin-listed t (insideIn (finalOf job)) (triangle t) told rising .1 (record {
+          row = x .row;
+          corner = x .corner;
+          row-below = x .row-below;
+          corner-below = x .corner-below;
+          row-inside = x .row-inside;
+          on-skin = x .on-skin;
+          ids-are = refl;
+        }) in
+        finite-skin (job .table) (finalOf job) (job-corners track bytes) (subst (OuterAlike (job .table)) (sym (grown .ends)) (alike (headerOf bytes .proposals))) rising
+        (grown .listed-exactly rising .0 stands)
+        (listed-ids t outward (job .points) (job-corners track bytes) (x .row) (x .corner) (x .corner-below) 0 (subst (λ (xs : List ℕ). Among 0 xs) (x .ids-are) zero));
   }

@@ -1,5 +1,6 @@
 -- Demand 2 is kept.
 use mathlib.Core.Path.{_≡_, refl, sym, ap, _∙_, subst}
+use mathlib.Core.Bool.{Bool}
 use mathlib.Core.List.{List, flatten}
 use Prim.Native.Nat.{ℕ, _+_, _*_, _<_}
 use native.Mathlib.Numerals.{add-one}
@@ -7,8 +8,9 @@ use native.Mathlib.Omega.{arith}
 use lib.ListN.{length, getD, take}
 use lib.Seq.{take-all, take-at, take-suc}
 use Rattle.rules.specs.Table.{neighbourList}
+use Rattle.rules.specs.Skin.{triangle}
 use Rattle.rules.specs.Proposals.{insideIn, answer, marksAfter, finalMarks, taken}
-use Rattle.rules.specs.Job.{track, headerOf, Job, jobOf, answersOf, standing, finalOf, skinWith, Lent, written, Result, accepted, run}
+use Rattle.rules.specs.Job.{track, headerOf, Job, jobOf, answersOf, standing, finalOf, skinWith, listedWith, Lent, written, Result, accepted, run}
 use Rattle.rules.specs.Laws.Count.{TheOther}
 use Rattle.rules.specs.Laws.Written.{written-at}
 use Rattle.rules.specs.Laws.Proposals.{answer-at, final-more}
@@ -17,7 +19,7 @@ use Rattle.rules.specs.Reading.Neighbours.{Side}
 use Rattle.rules.specs.Reading.Closed.{Closed, across-is, across-other, list-length, list-at}
 use Rattle.rules.specs.Reading.Answers.{answer-exactly, taken-exactly}
 use Rattle.rules.specs.Reading.Skin.{inside-reads}
-use Rattle.rules.specs.Reading.Room.{skin-once, skin-listed}
+use Rattle.rules.specs.Reading.Room.{skin-same-length, skin-once, skin-listed}
 use Rattle.rules.specs.Reading.Listing.{triangle-rises, sides-listed, skin-order}
 use Rattle.rules.specs.Reading.Codes.{run-accepted, run-code, accepted-closed}
 use Rattle.manifold.specs.Steps.{after-taken, after-refused}
@@ -26,18 +28,18 @@ use Rattle.track.specs.Outcomes.{result}
 use Rattle.demands.specs.Demands.{proposalAt, Demand2}
 use Rattle.demands.specs.Given.{code-is}
 
-module _ (bytes : List ℕ) (before : Lent) {o : Outcome} {after : Lent} (ran : result o after ≡ run track bytes before) (zero-code : o .code ≡ 0) where
+module _ (bytes : List ℕ) (outward : Bool) (before : Lent) {o : Outcome} {after : Lent} (ran : result o after ≡ run track outward bytes before) (zero-code : o .code ≡ 0) where
   abbrev job : Job
   job = jobOf track bytes
 
-  pub job-accepted : run track bytes before .code ≡ 0
-  job-accepted = sym (code-is bytes before ran) ∙ zero-code
+  pub job-accepted : run track outward bytes before .code ≡ 0
+  job-accepted = sym (code-is bytes outward before ran) ∙ zero-code
 
   pub job-closed : Closed (job .table) (job .ids)
-  job-closed = accepted-closed track bytes before job-accepted
+  job-closed = accepted-closed track outward bytes before job-accepted
 
-  is : result o after ≡ accepted job before
-  is = ran ∙ run-accepted track bytes before (sym (run-code track bytes before) ∙ job-accepted)
+  is : result o after ≡ accepted outward job before
+  is = ran ∙ run-accepted track outward bytes before (sym (run-code track outward bytes before) ∙ job-accepted)
 
   pub answers-are : after .answers ≡ written (answersOf job) (before .answers)
   unfolding accepted
@@ -47,7 +49,7 @@ module _ (bytes : List ℕ) (before : Lent) {o : Outcome} {after : Lent} (ran : 
   unfolding accepted
   marks-are = ap (λ (r : Result). r .left .finalMarks) is
 
-  triangles-are : after .triangles ≡ written (flatten (skinWith job (finalOf job))) (before .triangles)
+  triangles-are : after .triangles ≡ written (flatten (listedWith outward job (finalOf job))) (before .triangles)
   unfolding accepted
   triangles-are = ap (λ (r : Result). r .left .triangles) is
 
@@ -61,7 +63,7 @@ module _ (bytes : List ℕ) (before : Lent) {o : Outcome} {after : Lent} (ran : 
 
   triangles-is : o .triangles ≡ length (skinWith job (finalOf job))
   unfolding accepted
-  triangles-is = ap (λ (r : Result). r .triangles) is
+  triangles-is = ap (λ (r : Result). r .triangles) is ∙ skin-same-length (job .table) (insideIn (finalOf job)) _
 
   place-is : o .place ≡ 0
   unfolding accepted
@@ -102,7 +104,7 @@ module _ (bytes : List ℕ) (before : Lent) {o : Outcome} {after : Lent} (ran : 
             ∙ across-other t r c other,
       )
 
-  pub demand-2 : Demand2 bytes before o after
+  pub demand-2 : Demand2 bytes outward before o after
   unfolding finalMarks
   demand-2 =
       let t = job .table in
@@ -119,7 +121,7 @@ module _ (bytes : List ℕ) (before : Lent) {o : Outcome} {after : Lent} (ran : 
         ends = final-is;
         listed-exactly = sides-listed t four (job-closed .paired) (insideIn (finalOf job)) told;
         ids-rise = λ ids m.
-            let x = skin-listed t (insideIn (finalOf job)) told ids .0 m in
+            let x = skin-listed t (insideIn (finalOf job)) (triangle t) told ids .0 m in
             let (a, b, c, ab, bc, e) = triangle-rises t four (job-closed .paired) (x .row) (x .corner) (x .row-below) (rw four at (x .corner-below)) in
             (a, b, c, ab, bc, x .ids-are ∙ e);
         listed-once = skin-once t (insideIn (finalOf job)) (job-closed .paired) four;

@@ -23,6 +23,9 @@ use Rattle.round.specs.Edge.{Turned, turned-once}
 use Rattle.marks.specs.declared.Unfit.{Unfit}
 use Rattle.marks.specs.declared.Unfit.the-variants as unfit
 use Rattle.marks.specs.Start as start
+use Rattle.points.specs.declared.Misplaced.{Misplaced}
+use Rattle.points.specs.declared.Misplaced.the-variants as misplaced
+use Rattle.points.specs.Placed as placed
 
 -- ---- `job::read`
 
@@ -88,6 +91,23 @@ unfit-is u e = sym (back u) ∙ ap unfitAt e
     back (unfit.Mark r) = refl
     back (unfit.Outer r) = refl
     back (unfit.Vertex v) = refl
+
+-- ---- `points::check_points`
+
+unfoldable pub misplacedAt : Verdict → Misplaced
+misplacedAt v =
+    cond (eqb (v .code) 13) (misplaced.Point (v .place))
+    (cond (eqb (v .code) 14) (misplaced.Flat (v .place)) (cond (eqb (v .code) 15) (misplaced.Folded (v .place)) misplaced.Nothing))
+
+pub misplaced-is : (m : Misplaced) {v : Verdict} → placed.verdictOf m ≡ v → m ≡ misplacedAt v
+unfolding misplacedAt
+misplaced-is m e = sym (back m) ∙ ap misplacedAt e
+  where
+    back : (m : Misplaced) → misplacedAt (placed.verdictOf m) ≡ m
+    back misplaced.Nothing = refl
+    back (misplaced.Point v) = refl
+    back (misplaced.Flat r) = refl
+    back (misplaced.Folded r) = refl
 
 -- ---- `round::turn`
 

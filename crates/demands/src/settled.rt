@@ -3,6 +3,8 @@
 use job::Reading;
 use marks::Unfit;
 use marks::check_marks;
+use points::Misplaced;
+use points::check_points;
 use rings::ringless_vertex;
 use round::Stop;
 use round::turn;
@@ -10,21 +12,23 @@ use table::Broken;
 use values::Found;
 ghost use mathlib.Core.Path.{_≡_};
 ghost use mathlib.Core.Logic.{_≢_};
+ghost use mathlib.Core.Option.{some};
 ghost use Prim.Native.Nat.{_*_, _≤_};
 ghost use lib.ListN.{length};
 ghost use Rattle.rules.specs.Below.{lowest};
 ghost use Rattle.rules.specs.First.{firstMatch};
 ghost use Rattle.rules.specs.Table.{neighbourList};
 ghost use Rattle.rules.specs.Skin.{ringless};
+ghost use Rattle.rules.specs.Points.{pointIn};
 ghost use Rattle.rules.specs.Proposals.{insideIn};
-ghost use Rattle.rules.specs.Job.{track, mostRows, written, layoutTests, tableTests, markTests};
+ghost use Rattle.rules.specs.Job.{track, mostIds, mostRows, written, layoutTests, tableTests, markTests, pointTests};
 ghost use Rattle.job.specs.Reading.{header};
 ghost use Rattle.table.specs.Rows.{tableIn, rowsIn};
-ghost use Rattle.table.specs.Ground.{Grounded};
+ghost use Rattle.table.specs.Ground.{Ground, Grounded};
 ghost use Rattle.table.specs.Closed.{leftOf};
 ghost use Rattle.rings.specs.Far.{Marked};
 ghost use Rattle.round.specs.Edge.{Near};
-ghost use Rattle.demands.specs.Settled.{readingAt, brokenAt, unfitAt, foundAt, TheStop};
+ghost use Rattle.demands.specs.Settled.{readingAt, brokenAt, unfitAt, misplacedAt, foundAt, TheStop};
 
 pub(crate) fn header_read(job: &[u8]) -> Reading
     ensures { λ r. ⌜ r ≡ readingAt (firstMatch 1 (layoutTests track (now (job .entry)))) (header (now (job .entry))) ⌝ }
@@ -45,6 +49,18 @@ pub(crate) fn marks_checked(rows: &[u8], neighbours: &[u32], marks: &[u8], ids: 
     ensures { λ r. ⌜ r ≡ unfitAt (firstMatch 10 (markTests (tableIn (now (rows .entry))) ids (now (marks .entry)))) ⌝ }
 {
     check_marks(rows, neighbours, marks, ids)
+}
+
+pub(crate) fn points_checked(
+    rows: &[u8],
+    neighbours: &[u32],
+    points: &[u8],
+    ids: usize,
+) -> Misplaced
+    requires { ⌜ Ground (now rows) (now neighbours) ids × (ids ≤ mostIds) × (6 * ids ≤ length (now points)) ⌝ }
+    ensures { λ r. ⌜ r ≡ misplacedAt (firstMatch 13 (pointTests (tableIn (now (rows .entry))) ids (some (pointIn (now (points .entry)))))) ⌝ }
+{
+    check_points(rows, neighbours, points, ids)
 }
 
 pub(crate) fn vertex_found(rows: &[u8], neighbours: &[u32], marks: &[u8], ids: usize) -> Found

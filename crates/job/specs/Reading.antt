@@ -8,7 +8,7 @@ use lib.ListN.{length}
 use Rattle.rules.specs.Job as rules
 use Rattle.rules.specs.Below.{found}
 use Rattle.rules.specs.First.{given, Verdict, firstMatch}
-use Rattle.rules.specs.Job.{track, headerOf, mostRows, mostProposals, withinLimits, rowsAt, laidOut, layoutTests}
+use Rattle.rules.specs.Job.{track, headerOf, mostIds, mostRows, mostProposals, withinLimits, rowsAt, laidOut, layoutTests}
 use Rattle.rules.specs.Reading.Codes.{limits-read, laid-passed}
 use Rattle.job.specs.declared.Header.{Header}
 use Rattle.job.specs.declared.Reading.{Reading}
@@ -51,9 +51,9 @@ module _ (job : List ℕ) (long : rowsAt ≤ length job) (h : Header) (is : h �
   reads-limits f = rw (le-ltb (length job) rowsAt long, sym limits-are ∙ not-true limits f)
 
   -- what the layout may rest on
-  pub within-rooms : not limits ≡ false → (rowsAt ≤ length job) × (h .rows ≤ mostRows) × (h .proposals ≤ mostProposals)
+  pub within-rooms : not limits ≡ false → (rowsAt ≤ length job) × (h .ids ≤ mostIds) × (h .rows ≤ mostRows) × (h .proposals ≤ mostProposals)
   within-rooms t =
-      let ((_, (_, n)), (_, p)) = limits-read track (meant h) .0 (sym limited ∙ not-false limits t) in (long, n, p)
+      let (((_, v), (_, n)), (_, p)) = limits-read track (meant h) .0 (sym limited ∙ not-false limits t) in (long, v, n, p)
 
   module _ (t : not limits ≡ false) (laid : Bool) (laid-is : laid ≡ laidOut track (meant h) job) where
     passed : withinLimits track (headerOf job) ≡ true

@@ -4,7 +4,7 @@ ghost use mathlib.Core.Path.{_≡_};
 ghost use Prim.Native.Nat.{_+_, _*_, _≤_, _<_};
 ghost use lib.ListN.{length};
 ghost use Rattle.rules.specs.First.{firstMatch};
-ghost use Rattle.rules.specs.Job.{track, headerWord, mostRows, mostProposals, within, withinLimits, laidOut, rowsAt, marksAt, proposalsAt, wholeLength, workRoom, listRoom, shortRooms, layoutTests};
+ghost use Rattle.rules.specs.Job.{track, headerWord, mostIds, mostRows, mostProposals, within, withinLimits, laidOut, rowsAt, marksAt, proposalsAt, pointsAt, hasPoints, pointBytes, wholeLength, workRoom, listRoom, shortRooms, layoutTests};
 ghost use Rattle.job.specs.Reading.{meant, header, verdictOf, headerIn};
 
 // V, N, P and word 7.
@@ -67,11 +67,36 @@ impl Header {
         self.marks_at() + self.rows
     }
 
-    pub fn whole_length(self) -> usize
+    // Where the proposals end, and the points begin where there are any.
+    pub fn points_at(self) -> usize
         requires { ⌜ (self .rows ≤ mostRows) × (self .proposals ≤ mostProposals) ⌝ }
-        ensures { λ r. ⌜ r ≡ wholeLength track (meant self) ⌝ }
+        ensures { λ r. ⌜ r ≡ pointsAt track (meant self) ⌝ }
     {
         self.proposals_at() + 8 * self.proposals
+    }
+
+    // V points stand behind the proposals.
+    pub fn has_points(self) -> bool
+        ensures { λ r. ⌜ r ≡ hasPoints track (meant self) ⌝ }
+    {
+        self.mode == 1
+    }
+
+    fn point_bytes(self) -> usize
+        requires { ⌜ self .ids ≤ mostIds ⌝ }
+        ensures { λ r. ⌜ r ≡ pointBytes track (meant self) ⌝ }
+    {
+        if self.has_points() {
+            return 6 * self.ids;
+        }
+        0
+    }
+
+    pub fn whole_length(self) -> usize
+        requires { ⌜ (self .ids ≤ mostIds) × (self .rows ≤ mostRows) × (self .proposals ≤ mostProposals) ⌝ }
+        ensures { λ r. ⌜ r ≡ wholeLength track (meant self) ⌝ }
+    {
+        self.points_at() + self.point_bytes()
     }
 
     // Work words: a neighbour for each corner.
@@ -119,14 +144,14 @@ fn header_of(job: &[u8]) -> Header
 }
 
 fn laid_out(h: Header, job: &[u8]) -> bool
-    requires { ⌜ (rowsAt ≤ length (now job)) × (h .rows ≤ mostRows) × (h .proposals ≤ mostProposals) ⌝ }
+    requires { ⌜ (rowsAt ≤ length (now job)) × (h .ids ≤ mostIds) × (h .rows ≤ mostRows) × (h .proposals ≤ mostProposals) ⌝ }
     ensures { λ r. ⌜ r ≡ laidOut track (meant h) (now (job .entry)) ⌝ }
 {
     (header_word(job, 3) == h.rows_at())
         & (header_word(job, 4) == h.marks_at())
         & (header_word(job, 5) == h.proposals_at())
         & (header_word(job, 6) == h.whole_length())
-        & (h.mode == 0)
+        & ((h.mode == 0) | h.has_points())
         & (header_word(job, 6) == job.len())
 }
 

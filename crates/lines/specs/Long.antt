@@ -15,6 +15,7 @@ use Rattle.rules.specs.Words.{word}
 use Rattle.rules.specs.Job.{Header, track, headerOf, withinLimits, rowsAt, laidOut, layoutTests}
 use Rattle.rules.specs.Laws.Truth.{true-or-false, is-false}
 use Rattle.rules.specs.Laws.Words.{word-part}
+use Rattle.rules.specs.Laws.Job.{points-few}
 use Rattle.rules.specs.Reading.Codes.{limits-read, laid-out-reads}
 use Rattle.track.specs.Headers.{header-refused}
 use Rattle.lines.specs.Listing.{refusedText, listing, zeros, listingOf}
@@ -24,13 +25,13 @@ module _ (job : List ℕ) (long : 65536 ≤ length job) where
   not-laid-out : withinLimits track (headerOf job) ≡ true → laidOut track (headerOf job) job ≡ false
   not-laid-out w =
       is-false (laidOut track (headerOf job) job) (λ l.
-      let ((_, (_, n)), (_, p)) = limits-read track (headerOf job) .0 w in
+      let (((_, v), (_, n)), (_, p)) = limits-read track (headerOf job) .0 w in
       let out = laid-out-reads track (headerOf job) job .0 l in
-      omega (arith, out .1, out .0 .0 .1))
+      omega (arith, out .1, out .0 .0 .1, points-few track (headerOf job)))
 
   refused : {v : Verdict} → v ≡ firstMatch 1 (layoutTests track job) → v .code ≢ 0 → listingOf job ≡ refusedText (v .code) (v .place)
   unfolding listingOf listing
-  refused {v} e ne = rw (← header-refused job zeros e ne refl, ne-eqb (v .code) 0 ne)
+  refused {v} e ne = rw (← header-refused job false zeros e ne refl, ne-eqb (v .code) 0 ne)
 
   long-refused : listingOf job ≡ cond (withinLimits track (headerOf job)) (refusedText 3 0) (refusedText 2 0)
   unfolding layoutTests firstMatch given found

@@ -2,20 +2,22 @@
 use Prim.Native.Nat.{ℕ, _+_, _-_, _*_, _/_}
 use mathlib.Core.Bool.{Bool, not, _&&_, _||_, cond}
 use mathlib.Core.List.{List, [], _∷_, _++_, flatten}
-use mathlib.Core.Option.{Option·getD}
+use mathlib.Core.Option.{Option, some, none, Option·getD}
 use lib.Dec.{eqb, leb, ltb}
 use lib.ListN.{length, getD, take, drop, replicate}
 use Rattle.rules.specs.Below.{lowest, tabulate}
 use Rattle.rules.specs.Words.{word}
 use Rattle.rules.specs.Table.{Table, tableOf, rising, idsBelow, before, outer, neighbourList, trianglesShared, edgesJoined, verticesJoined}
-use Rattle.rules.specs.Skin.{ringless, clean, skin}
+use Rattle.rules.specs.Skin.{ringless, clean, skinAs, skin}
+use Rattle.rules.specs.Points.{Point, pointIn}
+use Rattle.rules.specs.Outward.{offGrid, flat, folded, triangleAs}
 use Rattle.rules.specs.First.{Test, given, Verdict, firstMatch}
 use Rattle.rules.specs.Proposals as P
 use Rattle.rules.specs.Proposals.{Proposal, insideIn, answersTo, taken}
 
 -- ---- the file: a header of counts and offsets
 
--- How a job's bytes are laid out: the corners of a row, the bytes of an id, and what word 7 is.
+-- How a job's bytes are laid out: the corners of a row, the bytes of an id, and what word 7 is where there are no points.
 pub record Form : Type 0 where
   pub corners : ℕ
   pub width : ℕ
@@ -59,7 +61,7 @@ withinLimits f h = within (least f) (h .ids) mostIds && within (least f) (h .row
 abbrev pub rowBytes : Form → ℕ
 rowBytes f = f .corners * f .width
 
--- the offsets of rows, marks and proposals, and the whole length: for a track 32, 32 + 16N, 32 + 17N and 32 + 17N + 8P
+-- the offsets of rows, marks and proposals, and where these end: for a track 32, 32 + 16N, 32 + 17N and 32 + 17N + 8P
 abbrev pub rowsAt : ℕ
 rowsAt = 32
 
@@ -69,14 +71,25 @@ marksAt f h = rowsAt + rowBytes f * h .rows
 abbrev pub proposalsAt : Form → Header → ℕ
 proposalsAt f h = marksAt f h + h .rows
 
+abbrev pub pointsAt : Form → Header → ℕ
+pointsAt f h = proposalsAt f h + 8 * h .proposals
+
+-- word 7 says that V points stand behind the proposals: for a track it is 1
+unfoldable pub hasPoints : Form → Header → Bool
+hasPoints f h = eqb (h .mode) (f .mode + 1)
+
+-- three i16 each
+unfoldable pub pointBytes : Form → Header → ℕ
+pointBytes f h = cond (hasPoints f h) (6 * h .ids) 0
+
 abbrev pub wholeLength : Form → Header → ℕ
-wholeLength f h = proposalsAt f h + 8 * h .proposals
+wholeLength f h = pointsAt f h + pointBytes f h
 
 -- words 3 to 7 are as the table of the header says, and word 6 is the length lent
 unfoldable pub laidOut : Form → Header → List ℕ → Bool
 laidOut f h bytes =
     eqb (headerWord bytes 3) rowsAt && eqb (headerWord bytes 4) (marksAt f h) && eqb (headerWord bytes 5) (proposalsAt f h)
-    && eqb (headerWord bytes 6) (wholeLength f h) && eqb (h .mode) (f .mode) && eqb (headerWord bytes 6) (length bytes)
+    && eqb (headerWord bytes 6) (wholeLength f h) && (eqb (h .mode) (f .mode) || hasPoints f h) && eqb (headerWord bytes 6) (length bytes)
 
 -- ---- what the sections hold
 
@@ -93,12 +106,17 @@ rowsTable f n bytes = tableOf (f .corners) n (idsIn f n bytes)
 unfoldable pub proposalIn : List ℕ → ℕ → Proposal
 proposalIn bytes k = record { row = word 4 bytes (8 * k); kind = word 4 bytes (8 * k + 4) }
 
--- V, the rows, the starting marks and the proposals
+-- the point of each id, by the bytes of the points, where there are points
+unfoldable pub pointsOf : Form → Header → List ℕ → Option (ℕ → Point)
+pointsOf f h bytes = cond (hasPoints f h) (some (pointIn bytes)) none
+
+-- V, the rows, the starting marks, the proposals and the points
 pub record Job : Type 0 where
   pub ids : ℕ
   pub table : Table
   pub marks : List ℕ
   pub proposals : List Proposal
+  pub points : Option (ℕ → Point)
 
 unfoldable pub jobOf : Form → List ℕ → Job
 jobOf f bytes =
@@ -108,6 +126,7 @@ jobOf f bytes =
       table = rowsTable f (h .rows) (section bytes rowsAt (rowBytes f * h .rows));
       marks = section bytes (marksAt f h) (h .rows);
       proposals = tabulate (h .proposals) (proposalIn (section bytes (proposalsAt f h) (8 * h .proposals)));
+      points = pointsOf f h (section bytes (pointsAt f h) (pointBytes f h));
     }
 
 -- ---- a job's answers, marks and skins
@@ -122,9 +141,12 @@ standing job k = P.finalMarks (job .table) (job .marks) (take k (job .proposals)
 abbrev pub finalOf : Job → List ℕ
 finalOf job = P.finalMarks (job .table) (job .marks) (job .proposals)
 
--- the skin of such marks, and that it is clean
+-- the skin of such marks, that it is clean, and the skin in the order asked for: rising, or outward where there are points
 abbrev pub skinWith : Job → List ℕ → List (List ℕ)
 skinWith job marks = skin (job .table) (insideIn marks)
+
+abbrev pub listedWith : Bool → Job → List ℕ → List (List ℕ)
+listedWith outward job marks = skinAs (job .table) (insideIn marks) (triangleAs (job .table) outward (job .points))
 
 abbrev pub cleanWith : Job → List ℕ → Bool
 cleanWith job marks = clean (job .table) (insideIn marks) (job .ids)
@@ -161,7 +183,7 @@ written xs buffer = xs ++ drop (length xs) buffer
 
 -- how many codes there are
 abbrev pub codes : ℕ
-codes = 12
+codes = 15
 
 unfoldable pub layoutTests : Form → List ℕ → List Test
 layoutTests f bytes =
@@ -217,9 +239,25 @@ markTests t idCount marks =
     ∷ (λ _. lowest idCount (ringless t (insideIn marks) idCount))
     ∷ []
 
--- what the sections hold: codes 5 to 12
+-- the place that points show, where there are points
+unfoldable pub shown : Option (ℕ → Point) → ((ℕ → Point) → Option ℕ) → Option ℕ
+shown none look = none
+shown (some at) look = look at
+
+unfoldable pub pointTests : Table → ℕ → Option (ℕ → Point) → List Test
+pointTests t idCount points =
+    -- 13: a point out of range, or id 0 not zero
+    (λ _. shown points (λ at. lowest idCount (offGrid at)))
+    -- 14: a finite row of zero volume
+    ∷ (λ _. shown points (λ at. lowest (t .rows) (flat t at)))
+    -- 15: two finite neighbours on the same side of their triangle
+    ∷ (λ _. shown points (λ at. lowest (t .rows) (folded t at)))
+    ∷ []
+
+-- what the sections hold: codes 5 to 15
 abbrev pub sectionTests : Job → List Test
-sectionTests job = tableTests (job .table) (job .ids) ++ markTests (job .table) (job .ids) (job .marks)
+sectionTests job =
+    tableTests (job .table) (job .ids) ++ (markTests (job .table) (job .ids) (job .marks) ++ pointTests (job .table) (job .ids) (job .points))
 
 unfoldable pub jobTests : Form → List ℕ → Lent → List Test
 jobTests f bytes lent = layoutTests f bytes ++ (roomTests f (headerOf bytes) lent ++ sectionTests (jobOf f bytes))
@@ -234,12 +272,12 @@ pub record Result : Type 0 where
   -- the four buffers as left
   pub left : Lent
 
--- Code 0: P answers, N marks, the skin and the neighbour list at the front of their buffers.
-unfoldable pub accepted : Job → Lent → Result
-accepted job lent =
+-- Code 0: P answers, N marks, the skin in the order asked for and the neighbour list at the front of their buffers.
+unfoldable pub accepted : Bool → Job → Lent → Result
+accepted outward job lent =
     let answers = answersOf job in
     let final = finalOf job in
-    let skinList = skinWith job final in
+    let skinList = listedWith outward job final in
     record {
       code = 0;
       place = 0;
@@ -253,7 +291,7 @@ accepted job lent =
       };
     }
 
--- A refusal changes nothing in answers, final marks and triangles. Codes 1 to 4 don't touch work; codes 5 to 12 leave zero in its front.
+-- A refusal changes nothing in answers, final marks and triangles. Codes 1 to 4 don't touch work; codes 5 to 15 leave zero in its front.
 unfoldable pub refused : Form → Header → Verdict → Lent → Result
 refused f h v lent = record {
   code = v .code;
@@ -271,7 +309,8 @@ refused f h v lent = record {
 unfoldable pub verdictOn : Form → List ℕ → Lent → Verdict
 verdictOn f bytes lent = firstMatch 1 (jobTests f bytes lent)
 
-unfoldable pub run : Form → List ℕ → Lent → Result
-run f bytes lent =
+-- `outward` is the caller's choice: to have the skin listed outward, where there are points
+unfoldable pub run : Form → Bool → List ℕ → Lent → Result
+run f outward bytes lent =
     let v = verdictOn f bytes lent in
-    cond (eqb (v .code) 0) (accepted (jobOf f bytes) lent) (refused f (headerOf bytes) v lent)
+    cond (eqb (v .code) 0) (accepted outward (jobOf f bytes) lent) (refused f (headerOf bytes) v lent)

@@ -1,14 +1,16 @@
--- What document 01 means, with requests (i) and (ii) of document 02, from the bottom up, in their words, each idea in one place:
+-- What document 01 means, with requests (i) to (iii) of document 02, from the bottom up, in their words, each idea in one place:
 --     Below       numbers below a bound: lowest, any, all, count, pick, tabulate
 --     Words       numbers in bytes, low byte first
 --     Shape       corners, triangles and edges of a row, by position
 --     Joined      connectedness
 --     Table       rows, neighbours, the triangle, edge and vertex rules
 --     Skin        skin, far edges, one ring, clean, the skin list
+--     Points      points in bytes, their range, and the product by which a side is told
+--     Outward     points on a table, and triangles listed outward
 --     First       first match decides
 --     Cases       the five cases, and the answer of each that refuses
 --     Proposals   answers, and the marks after them
---     Job         the file, the twelve codes, the lent buffers, the run
+--     Job         the file, the fifteen codes, the lent buffers, the run
 --     Made        job files made from their parts
 -- Laws holds what follows from the definitions one by one. Reading says each sentence of document 01 in plain relations and proves it
 -- equal in meaning to its definition. Worked holds document 01's jobs with known results, and further ones, as computed theorems.
@@ -18,6 +20,8 @@ pub mod Shape
 pub mod Joined
 pub mod Table
 pub mod Skin
+pub mod Points
+pub mod Outward
 pub mod First
 pub mod Cases
 pub mod Proposals

@@ -4,7 +4,7 @@ use mathlib.Core.List.{List, [], _∷_, _++_}
 use lib.ListN.{length, take}
 use Rattle.rules.specs.Words.{words}
 use Rattle.rules.specs.Proposals.{Proposal}
-use Rattle.rules.specs.Job.{Form, Header, headerOf, rowBytes, rowsAt, marksAt, proposalsAt, wholeLength, section, Job}
+use Rattle.rules.specs.Job.{Form, Header, headerOf, rowBytes, rowsAt, marksAt, proposalsAt, pointsAt, wholeLength, pointBytes, section, Job}
 
 -- the eight words of a header, as the table of the header asks
 abbrev pub headerWords : Form → Header → List ℕ
@@ -24,22 +24,26 @@ withProposals h k = record { ids = h .ids; rows = h .rows; proposals = k; mode =
 
 -- ---- other proposals
 
--- the job with the same rows, and other marks and proposals
+-- the job with the same rows and points, and other marks and proposals
 abbrev pub remadeJob : List ℕ → List Proposal → Job → Job
-remadeJob marks proposals job = record { ids = job .ids; table = job .table; marks = marks; proposals = proposals }
+remadeJob marks proposals job = record { ids = job .ids; table = job .table; marks = marks; proposals = proposals; points = job .points }
 
 -- the job with its first k proposals
 abbrev pub cutJob : ℕ → Job → Job
 cutJob k job = remadeJob (job .marks) (take k (job .proposals)) job
 
+-- the bytes of the points of a file
+abbrev pub pointsSection : Form → List ℕ → List ℕ
+pointsSection f bytes = section bytes (pointsAt f (headerOf bytes)) (pointBytes f (headerOf bytes))
+
 -- the job file cut to its first k proposals
 unfoldable pub cutTo : Form → ℕ → List ℕ → List ℕ
 cutTo f k bytes =
     let h = withProposals (headerOf bytes) k in
-    headerBytes f h ++ section bytes rowsAt (wholeLength f h - rowsAt)
+    headerBytes f h ++ (section bytes rowsAt (pointsAt f h - rowsAt) ++ pointsSection f bytes)
 
--- the job file with the same rows, and other marks and proposals
+-- the job file with the same rows and points, and other marks and proposals
 unfoldable pub remade : Form → List ℕ → List Proposal → List ℕ → List ℕ
 remade f marks proposals bytes =
     let h = withProposals (headerOf bytes) (length proposals) in
-    headerBytes f h ++ (section bytes rowsAt (rowBytes f * h .rows) ++ (marks ++ proposalBytes proposals))
+    headerBytes f h ++ (section bytes rowsAt (rowBytes f * h .rows) ++ (marks ++ (proposalBytes proposals ++ pointsSection f bytes)))

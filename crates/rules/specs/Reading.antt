@@ -6,13 +6,15 @@
 --     Apart       no two rows have the same ids
 --     Skin        skin triangles, skin vertices, far edges
 --     Outer       outer rows: they come first; alike or not; the finite skin
+--     Points      the range of points, the fourth corner of a row at a triangle, and codes 13 to 15
 --     Ring        one ring, clean
 --     Answers     the tests of a proposal and the five cases
 --     Codes       each code exactly in its case, and what it leaves
 --     Room        at most 2N triangles, each once
 --     Listing     the skin list: the triangles between the sides, from either row
+--     Outward     triangles that pass from an id to another, and that face outward
 --     Small       how large what a run gives can be
---     File        where an id, a mark and a proposal stand in the job file
+--     File        where an id, a mark, a proposal and a point stand in the job file
 pub mod Rows
 pub mod Neighbours
 pub mod Closed
@@ -20,10 +22,12 @@ pub mod Moves
 pub mod Apart
 pub mod Skin
 pub mod Outer
+pub mod Points
 pub mod Ring
 pub mod Answers
 pub mod Codes
 pub mod Room
 pub mod Listing
+pub mod Outward
 pub mod Small
 pub mod File

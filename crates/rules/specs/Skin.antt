@@ -48,13 +48,17 @@ ringless t inside idCount v = skinVertex t inside idCount v && not (oneRing t in
 unfoldable pub clean : Table → (ℕ → Bool) → ℕ → Bool
 clean t inside idCount = not (any idCount (ringless t inside idCount))
 
--- ---- the skin list: by inside row, then left-out corner 0 to 3; the ids rise within a triangle
+-- ---- the skin list: by inside row, then left-out corner 0 to 3, with the ids of each triangle in the order that they are listed in
 
+-- the ids rise
 unfoldable pub triangle : Table → ℕ → ℕ → List ℕ
 triangle t r c = map (t .id r) (facet (t .corners) c)
 
-unfoldable pub skinOf : Table → (ℕ → Bool) → ℕ → List (List ℕ)
-skinOf t inside r = gather (t .corners) (λ c. only (inside r && onSkin t inside r c) (triangle t r c))
+unfoldable pub skinOf : Table → (ℕ → Bool) → (ℕ → ℕ → List ℕ) → ℕ → List (List ℕ)
+skinOf t inside ids r = gather (t .corners) (λ c. only (inside r && onSkin t inside r c) (ids r c))
 
-unfoldable pub skin : Table → (ℕ → Bool) → List (List ℕ)
-skin t inside = gather (t .rows) (skinOf t inside)
+unfoldable pub skinAs : Table → (ℕ → Bool) → (ℕ → ℕ → List ℕ) → List (List ℕ)
+skinAs t inside ids = gather (t .rows) (skinOf t inside ids)
+
+abbrev pub skin : Table → (ℕ → Bool) → List (List ℕ)
+skin t inside = skinAs t inside (triangle t)

@@ -1,9 +1,10 @@
--- Jobs with known results, each a theorem that antt computes: `Worked.Document` has those of document 01, `Worked.Ours` further ones.
--- This module is how they are written down.
+-- Jobs with known results, each a theorem that antt computes: `Worked.Document` has those of document 01, `Worked.Ours` further ones, and
+-- `Worked.Pointed` jobs with points. This module is how they are written down.
 pub mod Document
 pub mod Ours
+pub mod Pointed
 use Prim.Native.Nat.{ℕ, _+_, _-_, _*_, _/_}
-use mathlib.Core.Bool.{cond}
+use mathlib.Core.Bool.{Bool, false, cond}
 use mathlib.Core.List.{List, [], _∷_, _++_, flatten}
 use lib.Dec.{leb}
 use lib.ListN.{length, set, replicate}
@@ -12,11 +13,13 @@ use Rattle.rules.specs.Words.{word, words}
 use Rattle.rules.specs.Shape.{facet, edgeTable, vertices}
 use Rattle.rules.specs.Joined.{those, unreached, none-left, connected}
 use Rattle.rules.specs.Table.{tableOf, rising, idsBelow, before, holds, outer, side, neighbours, across, neighbourList, trianglesShared, holdsFace, faceJoined, facesJoined, edgesJoined, verticesJoined}
-use Rattle.rules.specs.Skin.{onSkin, different, holdsThree, farEdge, farEnd, oneRing, skinVertex, ringless, triangle, skinOf, skin}
+use Rattle.rules.specs.Skin.{onSkin, different, holdsThree, farEdge, farEnd, oneRing, skinVertex, ringless, triangle, skinOf, skinAs}
+use Rattle.rules.specs.Points.{signed, coordinate, pointIn, inRange, onGrid, belowZero, aboveZero, isZero, sameSign, atOrigin, from, triple, volume}
+use Rattle.rules.specs.Outward.{product, sideOf, onTriangle, fourthId, farId, offGrid, flat, sameSide, folded, rightWay, exchanged, triangleAs}
 use Rattle.rules.specs.First.{given, firstMatch}
 use Rattle.rules.specs.Cases.{otherSide, free, trianglesOnSkin, passes, refusesAt, caseTests}
 use Rattle.rules.specs.Proposals.{insideIn, adds, answerTests, answer, marksAfter, answersTo, finalMarks, taken}
-use Rattle.rules.specs.Job.{Lent, Result, track, headerOf, withinLimits, laidOut, rowsTable, proposalIn, jobOf, shortRooms, roomShort, written, layoutTests, roomTests, tableTests, unlike, markTests, jobTests, accepted, refused, verdictOn, run}
+use Rattle.rules.specs.Job.{Lent, Result, track, headerOf, hasPoints, pointBytes, withinLimits, laidOut, rowsTable, proposalIn, pointsOf, jobOf, shortRooms, roomShort, written, layoutTests, roomTests, tableTests, unlike, markTests, shown, pointTests, jobTests, accepted, refused, verdictOn, run}
 
 -- ---- a job's bytes
 
@@ -75,15 +78,16 @@ refusal n p code place = record {
   };
 }
 
--- a job with its buffers and what a run of it gives
+-- a job with the caller's choice, its buffers, and what a run of it gives
 pub record Worked : Type 0 where
   pub bytes : List ℕ
+  pub outward : Bool
   pub lent : Lent
   pub result : Result
 
 unfoldable pub ran : Worked → Result
-unfolding withinLimits orElse found lowest any all allBut bit sum count gather tabulate only pick word facet edgeTable vertices those unreached none-left connected tableOf rising idsBelow before holds outer side neighbours across neighbourList trianglesShared holdsFace faceJoined facesJoined edgesJoined verticesJoined onSkin different holdsThree farEdge farEnd oneRing skinVertex ringless triangle skinOf skin given firstMatch otherSide free trianglesOnSkin passes refusesAt caseTests insideIn adds answerTests answer marksAfter answersTo finalMarks taken headerOf laidOut rowsTable proposalIn jobOf shortRooms roomShort written layoutTests roomTests tableTests unlike markTests jobTests accepted refused verdictOn run flatten
-ran w = run track (w .bytes) (w .lent)
+unfolding withinLimits orElse found lowest any all allBut bit sum count gather tabulate only pick word facet edgeTable vertices those unreached none-left connected tableOf rising idsBelow before holds outer side neighbours across neighbourList trianglesShared holdsFace faceJoined facesJoined edgesJoined verticesJoined onSkin different holdsThree farEdge farEnd oneRing skinVertex ringless triangle skinOf skinAs signed coordinate pointIn inRange onGrid belowZero aboveZero isZero sameSign atOrigin from triple volume product sideOf onTriangle fourthId farId offGrid flat sameSide folded rightWay exchanged triangleAs given firstMatch otherSide free trianglesOnSkin passes refusesAt caseTests insideIn adds answerTests answer marksAfter answersTo finalMarks taken headerOf hasPoints pointBytes laidOut rowsTable proposalIn pointsOf jobOf shortRooms roomShort written layoutTests roomTests tableTests unlike markTests shown pointTests jobTests accepted refused verdictOn run flatten
+ran w = run track (w .outward) (w .bytes) (w .lent)
 
 abbrev pub known : Worked → Result
 known w = w .result
@@ -91,6 +95,7 @@ known w = w .result
 abbrev pub accepts : ℕ → List ℕ → List ℕ → List ℕ → Result → Worked
 accepts ids rows marks proposals result = record {
   bytes = job ids rows marks proposals;
+  outward = false;
   lent = lend (length rows / 4) (length proposals / 2);
   result = result;
 }
@@ -98,6 +103,7 @@ accepts ids rows marks proposals result = record {
 abbrev pub refuses : ℕ → List ℕ → List ℕ → List ℕ → ℕ → ℕ → Worked
 refuses ids rows marks proposals code place = record {
   bytes = job ids rows marks proposals;
+  outward = false;
   lent = lend (length rows / 4) (length proposals / 2);
   result = refusal (length rows / 4) (length proposals / 2) code place;
 }
@@ -106,6 +112,7 @@ refuses ids rows marks proposals code place = record {
 abbrev pub keeps : List ℕ → Lent → ℕ → Worked
 keeps bytes lent code = record {
   bytes = bytes;
+  outward = false;
   lent = lent;
   result = record { code = code; place = 0; taken = 0; triangles = 0; left = lent };
 }

@@ -1,7 +1,7 @@
 -- The sections of a job that is laid out, and what the verdict on its table leaves to decide.
 use mathlib.Core.Path.{_≡_, refl, sym, ap, ap₂, _∙_}
 use mathlib.Core.Logic.{⊎-elim, _≢_}
-use mathlib.Core.Bool.{false}
+use mathlib.Core.Bool.{Bool, false}
 use mathlib.Core.List.{List}
 use Prim.Native.Nat.{ℕ, _+_, _-_, _*_, _/_, _≤_}
 use native.Mathlib.Nat.{le-refl}
@@ -13,7 +13,7 @@ use Rattle.rules.specs.Below.{tabulate}
 use Rattle.rules.specs.First.{Test, Verdict, firstMatch}
 use Rattle.rules.specs.Table.{neighbourList}
 use Rattle.rules.specs.Job as rules
-use Rattle.rules.specs.Job.{track, rowBytes, rowsAt, marksAt, proposalsAt, section, rowsTable, proposalIn, Job, jobOf, Lent, workRoom, written, tableTests, markTests, Result, accepted, refused}
+use Rattle.rules.specs.Job.{track, rowBytes, rowsAt, marksAt, proposalsAt, pointsAt, pointBytes, section, rowsTable, proposalIn, pointsOf, Job, jobOf, Lent, workRoom, written, tableTests, Result, accepted, refused}
 use Rattle.rules.specs.Laws.Truth.{same-or-not}
 use Rattle.rules.specs.Laws.First.{match-append, match-front}
 use Rattle.rules.specs.Laws.Lists.{part-length}
@@ -29,7 +29,7 @@ use Rattle.table.specs.Closed.{verdictOf, leftOf}
 use Rattle.growth.specs.Answers.{proposalsIn}
 use Rattle.track.specs.declared.Outcome.{Outcome}
 use Rattle.track.specs.Outcomes.{lent, result, refusal}
-use Rattle.track.specs.Stages.{decided, jobIn, fromTable, fromMarks, late, all-zero, Ready, Laid}
+use Rattle.track.specs.Stages.{decided, jobIn, fromTable, laterTests, fromMarks, late, all-zero, Ready, Laid}
 
 -- a refused table leaves zeros, a closed one what was written
 left-refused : (b : Broken) (work : List ℕ) → verdictOf b .code ≢ 0 → leftOf b work ≡ replicate (length work) 0
@@ -51,11 +51,11 @@ left-closed (Edge r) work z = absurd (omega arith)
 left-closed (Vertex r) work z = absurd (omega arith)
 
 -- what was written to work before is written over
-same-left : (h : rules.Header) (tests : List Test) (code : ℕ) → 5 ≤ code → (job : Job) (answers final triangles work work₀ : List ℕ)
+same-left : (outward : Bool) (h : rules.Header) (tests : List Test) (code : ℕ) → 5 ≤ code → (job : Job) (answers final triangles work work₀ : List ℕ)
     → workRoom track h ≡ length (neighbourList (job .table)) → work ≡ written (neighbourList (job .table)) work₀
-    → decided h (firstMatch code tests) job (lent answers final triangles work) ≡ decided h (firstMatch code tests) job (lent answers final triangles work₀)
+    → decided outward h (firstMatch code tests) job (lent answers final triangles work) ≡ decided outward h (firstMatch code tests) job (lent answers final triangles work₀)
 unfolding decided accepted refused
-same-left h tests code l job answers final triangles work work₀ fits ew =
+same-left outward h tests code l job answers final triangles work work₀ fits ew =
     ⊎-elim (λ (z : firstMatch code tests .code ≡ 0). rw (z, ew, written-over list list work₀ (le-refl (length list))))
     (λ (ne : firstMatch code tests .code ≡ 0 → ⊥). rw (ne-eqb (firstMatch code tests .code) 0 ne, late code l tests ne, ew, over)) (same-or-not (firstMatch code tests .code) 0)
   where
@@ -65,7 +65,8 @@ same-left h tests code l job answers final triangles work work₀ fits ew =
     over : written (replicate (workRoom track h) 0) (written list work₀) ≡ written (replicate (workRoom track h) 0) work₀
     over = written-over (replicate (workRoom track h) 0) list work₀ (rw (length-replicate {A = ℕ} (workRoom track h) 0, fits) (le-refl (length list)))
 
-module _ {h : Header} {job : List ℕ} {buffers : Lent} (l : Laid h job buffers) {a b c : ℕ} (ea : a ≡ rowsAt) (eb : b ≡ marksAt track (meant h)) (ec : c ≡ proposalsAt track (meant h)) where
+module _ {h : Header} {job : List ℕ} {buffers : Lent} (l : Laid h job buffers) {a b c : ℕ} (ea : a ≡ rowsAt) (eb : b ≡ marksAt track (meant h)) (ec : c ≡ proposalsAt track (meant h))
+    {d : ℕ} (ed : d ≡ pointsAt track (meant h)) where
   -- the sections, as they are cut out
   abbrev rows : List ℕ
   rows = take (b - a) (drop a job)
@@ -74,7 +75,10 @@ module _ {h : Header} {job : List ℕ} {buffers : Lent} (l : Laid h job buffers)
   marks = take (c - b) (drop b job)
 
   abbrev proposals : List ℕ
-  proposals = take (length job - c) (drop c job)
+  proposals = take (d - c) (drop c job)
+
+  abbrev points : List ℕ
+  points = take (length job - d) (drop d job)
 
   rows-is : rows ≡ section job rowsAt (rowBytes track * h .rows)
   rows-is = let size : b - a ≡ rowBytes track * h .rows = omega (arith, ea, eb) in ap₂ (λ (n m : ℕ). take n (drop m job)) size ea
@@ -83,7 +87,10 @@ module _ {h : Header} {job : List ℕ} {buffers : Lent} (l : Laid h job buffers)
   marks-is = let size : c - b ≡ h .rows = omega (arith, eb, ec) in ap₂ (λ (n m : ℕ). take n (drop m job)) size eb
 
   proposals-is : proposals ≡ section job (proposalsAt track (meant h)) (8 * h .proposals)
-  proposals-is = let size : length job - c ≡ 8 * h .proposals = omega (arith, ec, l .long) in ap₂ (λ (n m : ℕ). take n (drop m job)) size ec
+  proposals-is = let size : d - c ≡ 8 * h .proposals = omega (arith, ec, ed) in ap₂ (λ (n m : ℕ). take n (drop m job)) size ec
+
+  points-is : points ≡ section job (pointsAt track (meant h)) (pointBytes track (meant h))
+  points-is = let size : length job - d ≡ pointBytes track (meant h) = omega (arith, ed, l .long) in ap₂ (λ (n m : ℕ). take n (drop m job)) size ed
 
   rows-long : length rows ≡ rowBytes track * h .rows
   rows-long = ap length rows-is ∙ part-length job rowsAt (rowBytes track * h .rows) (omega (arith, l .long))
@@ -99,9 +106,9 @@ module _ {h : Header} {job : List ℕ} {buffers : Lent} (l : Laid h job buffers)
   proposals-counted = omega (arith, proposals-long)
 
   -- they hold the job
-  job-is : jobIn (h .ids) rows marks proposals ≡ jobOf track job
+  job-is : jobIn h rows marks proposals points ≡ jobOf track job
   unfolding jobOf proposalsIn
-  job-is = (λ k. record { ids = h .ids; table = table-is k; marks = marks-is k; proposals = proposals-are k }) ∙ ap (λ (x : Header). held (meant x)) (l .is)
+  job-is = (λ k. record { ids = h .ids; table = table-is k; marks = marks-is k; proposals = proposals-are k; points = pointsOf track (meant h) (points-is k) }) ∙ ap (λ (x : Header). held (meant x)) (l .is)
     where
       held : rules.Header → Job
       held x = record {
@@ -109,6 +116,7 @@ module _ {h : Header} {job : List ℕ} {buffers : Lent} (l : Laid h job buffers)
         table = rowsTable track (x .rows) (section job rowsAt (rowBytes track * x .rows));
         marks = section job (marksAt track x) (x .rows);
         proposals = tabulate (x .proposals) (proposalIn (section job (proposalsAt track x) (8 * x .proposals)));
+        points = pointsOf track x (section job (pointsAt track x) (pointBytes track x));
       }
 
       table-is : tableIn rows ≡ held (meant h) .table
@@ -117,7 +125,7 @@ module _ {h : Header} {job : List ℕ} {buffers : Lent} (l : Laid h job buffers)
       proposals-are : proposalsIn proposals ≡ held (meant h) .proposals
       proposals-are = ap₂ (λ (n : ℕ) (xs : List ℕ). tabulate n (proposalIn xs)) proposals-counted proposals-is
 
-  module _ (broken : Broken) (found : verdictOf broken ≡ firstMatch 5 (tableTests (tableIn rows) (h .ids))) {o : Outcome} (told : o ≡ refusal (verdictOf broken))
+  module _ (outward : Bool) (broken : Broken) (found : verdictOf broken ≡ firstMatch 5 (tableTests (tableIn rows) (h .ids))) {o : Outcome} (told : o ≡ refusal (verdictOf broken))
       {work : List ℕ} (left : work ≡ leftOf broken (written (neighbourList (tableIn rows)) (buffers .work))) where
     list-fits : length (neighbourList (tableIn rows)) ≡ workRoom track (meant h)
     list-fits = list-length (tableIn rows) ∙ ap (λ (n : ℕ). 4 * n) counted
@@ -128,12 +136,12 @@ module _ {h : Header} {job : List ℕ} {buffers : Lent} (l : Laid h job buffers)
     same-code : o .code ≡ verdictOf broken .code
     same-code = ap (λ (x : Outcome). x .code) told
 
-    pub table-refused : o .code ≢ 0 → result o (lent (buffers .answers) (buffers .finalMarks) (buffers .triangles) work) ≡ fromTable h (jobOf track job) buffers
+    pub table-refused : o .code ≢ 0 → result o (lent (buffers .answers) (buffers .finalMarks) (buffers .triangles) work) ≡ fromTable outward h (jobOf track job) buffers
     unfolding decided refused
     table-refused ne =
         rw (← job-is)
         (rw (
-          match-front 5 (tableTests (tableIn rows) (h .ids)) (markTests (tableIn rows) (h .ids) marks) (λ z. off (ap (λ (v : Verdict). v .code) found ∙ z)),
+          match-front 5 (tableTests (tableIn rows) (h .ids)) (laterTests (tableIn rows) (h .ids) marks (pointsOf track (meant h) points)) (λ z. off (ap (λ (v : Verdict). v .code) found ∙ z)),
           ← found,
           told,
           ne-eqb (verdictOf broken .code) 0 off,
@@ -160,8 +168,9 @@ module _ {h : Header} {job : List ℕ} {buffers : Lent} (l : Laid h job buffers)
       pub work-long : length work ≡ workRoom track (meant h)
       work-long = ap length listed ∙ kept ∙ l .work-room
 
-      pub ready : Ready (h .ids) rows marks proposals (lent (buffers .answers) (buffers .finalMarks) (buffers .triangles) work)
+      pub ready : Ready h rows marks proposals points (lent (buffers .answers) (buffers .finalMarks) (buffers .triangles) work)
       ready = record {
+        few-ids = l .few-ids;
         closed = is-closed;
         ground = record {
           few = rw counted (l .few);
@@ -173,6 +182,7 @@ module _ {h : Header} {job : List ℕ} {buffers : Lent} (l : Laid h job buffers)
               ∙ list-at (tableIn rows) r c lr lc;
         };
         each = ap length marks-is ∙ part-length job (marksAt track (meant h)) (h .rows) (omega (arith, l .long)) ∙ sym counted;
+        points-long = ap length points-is ∙ part-length job (pointsAt track (meant h)) (pointBytes track (meant h)) (omega (arith, l .long));
         listed = listed ∙ sym (ap (written (neighbourList (tableIn rows))) listed
             ∙ written-over (neighbourList (tableIn rows)) (neighbourList (tableIn rows)) (buffers .work) (le-refl (length (neighbourList (tableIn rows)))));
         answer-room = rw proposals-counted (l .answer-room);
@@ -180,13 +190,13 @@ module _ {h : Header} {job : List ℕ} {buffers : Lent} (l : Laid h job buffers)
         triangle-room = rw counted (l .triangle-room);
       }
 
-      pub table-passed : {r : Result} → r ≡ fromMarks h (jobIn (h .ids) rows marks proposals) (lent (buffers .answers) (buffers .finalMarks) (buffers .triangles) work)
-          → r ≡ fromTable h (jobOf track job) buffers
+      pub table-passed : {r : Result} → r ≡ fromMarks outward h (jobIn h rows marks proposals points) (lent (buffers .answers) (buffers .finalMarks) (buffers .triangles) work)
+          → r ≡ fromTable outward h (jobOf track job) buffers
       unfolding tableTests
       table-passed {r} e =
           e
-          ∙ same-left (meant h) (markTests (tableIn rows) (h .ids) marks) 10 (lit≤ tt) (jobIn (h .ids) rows marks proposals)
+          ∙ same-left outward (meant h) (laterTests (tableIn rows) (h .ids) marks (pointsOf track (meant h) points)) 10 (lit≤ tt) (jobIn h rows marks proposals points)
           (buffers .answers) (buffers .finalMarks) (buffers .triangles) work (buffers .work) (sym list-fits) listed
-          ∙ ap (λ (v : Verdict). decided (meant h) v (jobIn (h .ids) rows marks proposals) buffers)
-          (sym (match-append 5 (lit< tt) (tableTests (tableIn rows) (h .ids)) (markTests (tableIn rows) (h .ids) marks) (ap (λ (v : Verdict). v .code) (sym found) ∙ sym same-code ∙ z)))
-          ∙ ap (λ (j : Job). fromTable h j buffers) job-is
+          ∙ ap (λ (v : Verdict). decided outward (meant h) v (jobIn h rows marks proposals points) buffers)
+          (sym (match-append 5 (lit< tt) (tableTests (tableIn rows) (h .ids)) (laterTests (tableIn rows) (h .ids) marks (pointsOf track (meant h) points)) (ap (λ (v : Verdict). v .code) (sym found) ∙ sym same-code ∙ z)))
+          ∙ ap (λ (j : Job). fromTable outward h j buffers) job-is

@@ -1,24 +1,27 @@
--- The run in stages: header and room, table, marks, proposals. Each says what is still to be decided when it begins.
+-- The run in stages: header and room, table, marks, points, proposals. Each says what is still to be decided when it begins.
 use mathlib.Core.Path.{_≡_, refl, sym, ap, ap₂, _∙_}
 use mathlib.Core.Logic.{⊎-elim, _≢_}
-use mathlib.Core.Bool.{false, cond}
+use mathlib.Core.Bool.{Bool, true, false, _&&_, cond}
+use mathlib.Core.Option.{Option, some, none}
 use mathlib.Core.List.{List, _++_, flatten}
-use Prim.Native.Nat.{ℕ, _*_, _/_, _≤_}
+use Prim.Native.Nat.{ℕ, _+_, _*_, _/_, _≤_}
 use native.Mathlib.Nat.{le-refl}
 use native.Mathlib.Omega.{arith}
-use lib.Dec.{eqb, leb, lit≤}
+use lib.Dec.{eqb, leb, lit<, lit≤}
 use lib.ListN.{length, take, drop, replicate, length-replicate}
 use lib.Seq.{take-append-seam, drop-append-seam}
 use borrow.Author.Tests.{ne-eqb, lt-leb}
 use Rattle.rules.specs.Table.{Table, neighbourList}
 use Rattle.rules.specs.First.{Test, Verdict, firstMatch}
-use Rattle.rules.specs.Skin.{skin}
+use Rattle.rules.specs.Skin.{skinAs}
+use Rattle.rules.specs.Points.{Point, pointIn}
+use Rattle.rules.specs.Outward.{triangleAs}
 use Rattle.rules.specs.Proposals.{Proposal, insideIn, answersTo, finalMarks, taken}
 use Rattle.rules.specs.Job as rules
-use Rattle.rules.specs.Job.{track, headerOf, mostIds, mostRows, wholeLength, Job, jobOf, Lent, workRoom, listRoom, written, markTests, sectionTests, Result, accepted, refused, verdictOn, run}
+use Rattle.rules.specs.Job.{track, headerOf, mostIds, mostRows, mostProposals, hasPoints, pointBytes, wholeLength, pointsOf, Job, jobOf, Lent, workRoom, listRoom, written, markTests, shown, pointTests, sectionTests, Result, accepted, refused, verdictOn, run}
 use Rattle.rules.specs.Laws.Truth.{same-or-not}
 use Rattle.rules.specs.Laws.Proposals.{final-length}
-use Rattle.rules.specs.Laws.First.{match-code}
+use Rattle.rules.specs.Laws.First.{match-code, match-zero, match-append, match-front, match-parts}
 use Rattle.rules.specs.Laws.Written.{written-length, written-whole, written-front}
 use Rattle.rules.specs.Reading.Closed.{Closed}
 use Rattle.job.specs.declared.Header.{Header}
@@ -26,56 +29,76 @@ use Rattle.job.specs.Reading.{meant, header}
 use Rattle.table.specs.Rows.{tableIn, rowsIn}
 use Rattle.table.specs.Ground.{Ground}
 use Rattle.rings.specs.Far.{Marked}
+use Rattle.points.specs.Grid.{Grid, none-off}
 use Rattle.growth.specs.Answers.{proposalsIn}
 use Rattle.track.specs.declared.Outcome.{Outcome}
 use Rattle.track.specs.Outcomes.{lent, result, refusal}
 
 -- the verdict decides: accepted, or refused
-unfoldable pub decided : rules.Header → Verdict → Job → Lent → Result
-decided h v job lent = cond (eqb (v .code) 0) (accepted job lent) (refused track h v lent)
+unfoldable pub decided : Bool → rules.Header → Verdict → Job → Lent → Result
+decided outward h v job lent = cond (eqb (v .code) 0) (accepted outward job lent) (refused track h v lent)
 
-pub run-decided : (bytes : List ℕ) (lent : Lent) → decided (headerOf bytes) (verdictOn track bytes lent) (jobOf track bytes) lent ≡ run track bytes lent
+pub run-decided : (outward : Bool) (bytes : List ℕ) (lent : Lent)
+    → decided outward (headerOf bytes) (verdictOn track bytes lent) (jobOf track bytes) lent ≡ run track outward bytes lent
 unfolding run decided
-run-decided bytes lent = refl
+run-decided outward bytes lent = refl
 
--- the job of V and of the bytes of its sections
-abbrev pub jobIn : ℕ → List ℕ → List ℕ → List ℕ → Job
-jobIn ids rows marks proposals = record { ids = ids; table = tableIn rows; marks = marks; proposals = proposalsIn proposals }
+-- the job of a header and of the bytes of its sections
+abbrev pub jobIn : Header → List ℕ → List ℕ → List ℕ → List ℕ → Job
+jobIn h rows marks proposals points = record {
+  ids = h .ids;
+  table = tableIn rows;
+  marks = marks;
+  proposals = proposalsIn proposals;
+  points = pointsOf track (meant h) points;
+}
+
+-- the tests of marks and points: codes 10 to 15
+abbrev pub laterTests : Table → ℕ → List ℕ → Option (ℕ → Point) → List Test
+laterTests t ids marks points = markTests t ids marks ++ pointTests t ids points
 
 -- what is still to be decided of a job when its table is looked at, and when its marks are
-abbrev pub fromTable : Header → Job → Lent → Result
-fromTable h job = decided (meant h) (firstMatch 5 (sectionTests job)) job
+abbrev pub fromTable : Bool → Header → Job → Lent → Result
+fromTable outward h job = decided outward (meant h) (firstMatch 5 (sectionTests job)) job
 
-abbrev pub fromMarks : Header → Job → Lent → Result
-fromMarks h job = decided (meant h) (firstMatch 10 (markTests (job .table) (job .ids) (job .marks))) job
+abbrev pub fromMarks : Bool → Header → Job → Lent → Result
+fromMarks outward h job = decided outward (meant h) (firstMatch 10 (laterTests (job .table) (job .ids) (job .marks) (job .points))) job
 
 -- ---- what each stage may rest on
 
--- a closed table whose neighbour list stands at the front of work, a mark for each row, and room for what a run leaves
-pub record Ready (ids : ℕ) (rows marks proposals : List ℕ) (buffers : Lent) : Type 0 where
-  pub closed : Closed (tableIn rows) ids
-  pub ground : Ground rows (buffers .work) ids
+-- a closed table whose neighbour list stands at the front of work, a mark for each row, points if the header says so, and room for what a
+-- run leaves
+pub record Ready (h : Header) (rows marks proposals points : List ℕ) (buffers : Lent) : Type 0 where
+  pub few-ids : h .ids ≤ mostIds
+  pub closed : Closed (tableIn rows) (h .ids)
+  pub ground : Ground rows (buffers .work) (h .ids)
   pub each : length marks ≡ rowsIn rows
+  pub points-long : length points ≡ pointBytes track (meant h)
   pub listed : buffers .work ≡ written (neighbourList (tableIn rows)) (buffers .work)
   pub answer-room : length proposals / 8 ≤ length (buffers .answers)
   pub mark-room : rowsIn rows ≤ length (buffers .finalMarks)
   pub triangle-room : 6 * rowsIn rows ≤ length (buffers .triangles)
 
-pub the-marks : {ids : ℕ} {rows marks proposals : List ℕ} {buffers : Lent} → Ready ids rows marks proposals buffers → ids ≤ mostIds → Marked rows (buffers .work) marks ids
-the-marks s few = record { ground = s .ground; few = few; each = s .each }
+pub the-marks : {h : Header} {rows marks proposals points : List ℕ} {buffers : Lent} → Ready h rows marks proposals points buffers → Marked rows (buffers .work) marks (h .ids)
+the-marks s = record { ground = s .ground; few = s .few-ids; each = s .each }
+
+-- where there are points, each is in range
+abbrev pub OnGrid : Header → List ℕ → Type 0
+OnGrid h points = hasPoints track (meant h) ≡ true → Grid points (h .ids)
 
 -- a job that is laid out, rooms that are not short, and as much work as is needed
 pub record Laid (h : Header) (job : List ℕ) (buffers : Lent) : Type 0 where
   pub is : h ≡ header job
   pub few-ids : h .ids ≤ mostIds
   pub few : h .rows ≤ mostRows
+  pub few-proposals : h .proposals ≤ mostProposals
   pub long : length job ≡ wholeLength track (meant h)
   pub answer-room : h .proposals ≤ length (buffers .answers)
   pub mark-room : h .rows ≤ length (buffers .finalMarks)
   pub triangle-room : listRoom track (meant h) ≤ length (buffers .triangles)
   pub work-room : length (buffers .work) ≡ workRoom track (meant h)
 
--- ---- the verdict on the marks
+-- ---- the verdict on marks and points
 
 pub late : (code : ℕ) → 5 ≤ code → (tests : List Test) → firstMatch code tests .code ≢ 0 → leb (firstMatch code tests .code) 4 ≡ false
 late code l tests ne = ⊎-elim (λ z. absurd (ne z)) (λ m. lt-leb (firstMatch code tests .code) 4 (omega arith)) (match-code code tests)
@@ -84,21 +107,83 @@ late code l tests ne = ⊎-elim (λ z. absurd (ne z)) (λ m. lt-leb (firstMatch 
 pub all-zero : (h : Header) (work : List ℕ) → length work ≡ workRoom track (meant h) → written (replicate (workRoom track (meant h)) 0) work ≡ replicate (length work) 0
 all-zero h work e = rw (← e) (written-whole (replicate (length work) 0) work (rw (length-replicate {A = ℕ} (length work) 0) (le-refl (length work))))
 
-module _ (h : Header) {rows marks proposals : List ℕ} {buffers : Lent} (s : Ready (h .ids) rows marks proposals buffers) (room : length (buffers .work) ≡ workRoom track (meant h))
-    {v : Verdict} (is : v ≡ firstMatch 10 (markTests (tableIn rows) (h .ids) marks)) {o : Outcome} (told : o ≡ refusal v) where
-  pub marks-refused : {work : List ℕ} → o .code ≢ 0 → work ≡ replicate (length (buffers .work)) 0
-      → result o (lent (buffers .answers) (buffers .finalMarks) (buffers .triangles) work)
-      ≡ fromMarks h (jobIn (h .ids) rows marks proposals) buffers
-  unfolding decided refused
-  marks-refused ne ew =
-      let off : v .code ≢ 0 = λ z. ne (ap (λ (x : Outcome). x .code) told ∙ z) in
-      let later = ap (λ (w : Verdict). leb (w .code) 4) is ∙ late 10 (lit≤ tt) (markTests (tableIn rows) (h .ids) marks) (λ z. off (ap (λ (w : Verdict). w .code) is ∙ z)) in
-      rw (told, ← is, ne-eqb (v .code) 0 off, later, all-zero h (buffers .work) room, ew)
+module _ (outward : Bool) (h : Header) (job : Job) (buffers : Lent) {o : Outcome} (told : o ≡ refusal (firstMatch 10 (laterTests (job .table) (job .ids) (job .marks) (job .points)))) where
+  abbrev tests : List Test
+  tests = laterTests (job .table) (job .ids) (job .marks) (job .points)
 
-  pub marks-accepted : o .code ≡ 0 → {r : Result} → ((ids : ℕ) → r ≡ accepted (jobIn ids rows marks proposals) buffers)
-      → r ≡ fromMarks h (jobIn (h .ids) rows marks proposals) buffers
+  same-code : o .code ≡ firstMatch 10 tests .code
+  same-code = ap (λ (x : Outcome). x .code) told
+
+  pub marks-refused : length (buffers .work) ≡ workRoom track (meant h) → {work : List ℕ} → o .code ≢ 0 → work ≡ replicate (length (buffers .work)) 0
+      → result o (lent (buffers .answers) (buffers .finalMarks) (buffers .triangles) work) ≡ fromMarks outward h job buffers
+  unfolding decided refused
+  marks-refused room ne ew =
+      let off : firstMatch 10 tests .code ≢ 0 = λ z. ne (same-code ∙ z) in
+      rw (told, ne-eqb (firstMatch 10 tests .code) 0 off, late 10 (lit≤ tt) tests off, all-zero h (buffers .work) room, ew)
+
+  pub marks-accepted : o .code ≡ 0 → {r : Result} → r ≡ accepted outward job buffers → r ≡ fromMarks outward h job buffers
   unfolding decided
-  marks-accepted z e = rw (← is, sym (ap (λ (x : Outcome). x .code) told) ∙ z) (e (h .ids))
+  marks-accepted z e = rw (sym same-code ∙ z) e
+
+-- ---- the points
+
+-- what is found of the points, where there are any
+module _ (h : Header) (t : Table) (points : List ℕ) where
+  pub points-room : hasPoints track (meant h) ≡ true → length points ≡ pointBytes track (meant h) → 6 * h .ids ≤ length points
+  unfolding pointBytes
+  points-room on long = rw (long, on) (le-refl (6 * h .ids))
+
+  pub with-points : hasPoints track (meant h) ≡ true → {v : Verdict} → v ≡ firstMatch 13 (pointTests t (h .ids) (some (pointIn points)))
+      → v ≡ firstMatch 13 (pointTests t (h .ids) (pointsOf track (meant h) points))
+  unfolding pointsOf
+  with-points on e = rw on e
+
+  pub without-points : hasPoints track (meant h) ≡ false → firstMatch 13 (pointTests t (h .ids) (pointsOf track (meant h) points)) ≡ record { code = 0; place = 0 }
+  unfolding pointsOf pointTests shown firstMatch
+  without-points off = rw off
+
+-- the verdict on the marks and then on the points
+module _ (h : Header) (t : Table) (marks points : List ℕ) {v : Verdict} (is : v ≡ firstMatch 10 (markTests t (h .ids) marks)) {o : Outcome} (told : o ≡ refusal v) where
+  code-is : o .code ≡ firstMatch 10 (markTests t (h .ids) marks) .code
+  code-is = ap (λ (x : Outcome). x .code) told ∙ ap (λ (w : Verdict). w .code) is
+
+  pub by-marks : o .code ≢ 0 → o ≡ refusal (firstMatch 10 (laterTests t (h .ids) marks (pointsOf track (meant h) points)))
+  by-marks ne = told ∙ ap refusal (is ∙ sym (match-front 10 (markTests t (h .ids) marks) _ (λ z. ne (code-is ∙ z))))
+
+  pub by-points : o .code ≡ 0 → {p : Outcome} → p ≡ refusal (firstMatch 13 (pointTests t (h .ids) (pointsOf track (meant h) points)))
+      → p ≡ refusal (firstMatch 10 (laterTests t (h .ids) marks (pointsOf track (meant h) points)))
+  unfolding markTests
+  by-points z e = e ∙ ap refusal (sym (match-append 10 (lit< tt) (markTests t (h .ids) marks) _ (sym code-is ∙ z)))
+
+-- where none of the codes 10 to 15 is given, each point is in range
+pub on-grid : (h : Header) (t : Table) (marks : List ℕ) {points : List ℕ} → h .ids ≤ mostIds → length points ≡ pointBytes track (meant h)
+    → firstMatch 10 (laterTests t (h .ids) marks (pointsOf track (meant h) points)) .code ≡ 0 → OnGrid h points
+unfolding markTests pointTests pointsOf shown
+on-grid h t marks {points} few long e on =
+    let passed = match-parts 10 (lit< tt) (markTests t (h .ids) marks) _ e .1 in
+    none-off (match-zero 13 (lit< tt) _ _ (rw on at passed) .0) few (points-room h t points on long)
+
+-- the order of a triangle that is asked for: outward is heard only where there are points
+pub asked-order : (h : Header) (t : Table) (outward : Bool) (points : List ℕ)
+    → triangleAs t (outward && hasPoints track (meant h)) (some (pointIn points)) ≡ triangleAs t outward (pointsOf track (meant h) points)
+unfolding triangleAs pointsOf
+asked-order h t outward points = go (hasPoints track (meant h)) outward
+  where
+    go : (b o : Bool) → triangleAs t (o && b) (some (pointIn points)) ≡ triangleAs t o (cond b (some (pointIn points)) none)
+    go true true = refl
+    go true false = refl
+    go false true = refl
+    go false false = refl
+
+-- the skin of the front of the final marks
+abbrev pub frontSkin : Header → List ℕ → List ℕ → Bool → List ℕ → List (List ℕ)
+frontSkin h rows points outward final = skinAs (tableIn rows) (insideIn (take (rowsIn rows) final)) (triangleAs (tableIn rows) outward (pointsOf track (meant h) points))
+
+pub front-listed : (h : Header) (rows points : List ℕ) (outward : Bool) (final triangles₀ : List ℕ) {n count : ℕ} {has : Bool} {triangles : List ℕ} → n ≡ rowsIn rows → has ≡ hasPoints track (meant h)
+    → (count ≡ length (skinAs (tableIn rows) (insideIn (take n final)) (triangleAs (tableIn rows) (outward && has) (some (pointIn points)))))
+    × (triangles ≡ written (flatten (skinAs (tableIn rows) (insideIn (take n final)) (triangleAs (tableIn rows) (outward && has) (some (pointIn points))))) triangles₀)
+    → (count ≡ length (frontSkin h rows points outward final)) × (triangles ≡ written (flatten (frontSkin h rows points outward final)) triangles₀)
+front-listed h rows points outward final triangles₀ en eh e = rw (en, eh, asked-order h (tableIn rows) outward points) at e
 
 -- ---- the work that is needed, lent by itself
 
@@ -112,12 +197,12 @@ withRest rest r = record {
   left = lent (r .left .answers) (r .left .finalMarks) (r .left .triangles) (r .left .work ++ rest);
 }
 
-pub front-decides : (h : Header) (tests : List Test) (code : ℕ) → 5 ≤ code → (job : Job) → length (neighbourList (job .table)) ≤ workRoom track (meant h)
+pub front-decides : (outward : Bool) (h : Header) (tests : List Test) (code : ℕ) → 5 ≤ code → (job : Job) → length (neighbourList (job .table)) ≤ workRoom track (meant h)
     → (answers final triangles work : List ℕ) → workRoom track (meant h) ≤ length work
-    → withRest (drop (workRoom track (meant h)) work) (decided (meant h) (firstMatch code tests) job (lent answers final triangles (take (workRoom track (meant h)) work)))
-    ≡ decided (meant h) (firstMatch code tests) job (lent answers final triangles work)
+    → withRest (drop (workRoom track (meant h)) work) (decided outward (meant h) (firstMatch code tests) job (lent answers final triangles (take (workRoom track (meant h)) work)))
+    ≡ decided outward (meant h) (firstMatch code tests) job (lent answers final triangles work)
 unfolding decided accepted refused
-front-decides h tests code l job fits answers final triangles work room =
+front-decides outward h tests code l job fits answers final triangles work room =
     ⊎-elim (λ (z : firstMatch code tests .code ≡ 0). rw (z, written-front (neighbourList (job .table)) work (workRoom track (meant h)) fits room))
     (λ (ne : firstMatch code tests .code ≡ 0 → ⊥).
     rw (ne-eqb (firstMatch code tests .code) 0 ne, late code l tests ne, written-front zeros work (workRoom track (meant h)) (rw full (le-refl (workRoom track (meant h)))) room))
@@ -157,20 +242,20 @@ module _ (t : Table) (marks final₀ : List ℕ) (ps : List Proposal) {whole : L
       left-is : left ≡ finalMarks t marks ps
       left-is = el ∙ ap (λ (m : List ℕ). finalMarks t m ps) front-is
 
-pub final-room : {ids : ℕ} {rows marks proposals : List ℕ} {buffers : Lent} → Ready ids rows marks proposals buffers → {final : List ℕ}
+pub final-room : {h : Header} {rows marks proposals points : List ℕ} {buffers : Lent} → Ready h rows marks proposals points buffers → {final : List ℕ}
     → final ≡ written (finalMarks (tableIn rows) marks (proposalsIn proposals)) (buffers .finalMarks) → rowsIn rows ≤ length final
 final-room {rows = rows} {marks = marks} {proposals = proposals} {buffers = buffers} g e =
     rw (e, written-length (finalMarks (tableIn rows) marks (proposalsIn proposals)) (buffers .finalMarks) (rw (final-length (tableIn rows) marks (proposalsIn proposals), g .each) (g .mark-room))) (g .mark-room)
 
--- what an accepted job leaves, whatever its V, once its marks are answered and its skin is listed
-pub grown : {v : ℕ} {rows marks proposals : List ℕ} {buffers : Lent} → Ready v rows marks proposals buffers → {count taken-count : ℕ} {answers final triangles : List ℕ}
+-- what an accepted job leaves, once its marks are answered and its skin is listed
+pub grown : (outward : Bool) {h : Header} {rows marks proposals points : List ℕ} {buffers : Lent} → Ready h rows marks proposals points buffers
+    → {count taken-count : ℕ} {answers final triangles : List ℕ}
     → taken-count ≡ taken (answersTo (tableIn rows) marks (proposalsIn proposals)) → answers ≡ written (answersTo (tableIn rows) marks (proposalsIn proposals)) (buffers .answers)
     → final ≡ written (finalMarks (tableIn rows) marks (proposalsIn proposals)) (buffers .finalMarks)
-    → count ≡ length (skin (tableIn rows) (insideIn (take (rowsIn rows) final)))
-    → triangles ≡ written (flatten (skin (tableIn rows) (insideIn (take (rowsIn rows) final)))) (buffers .triangles) → (ids : ℕ)
-    → result (record { code = 0; place = 0; taken = taken-count; triangles = count }) (lent answers final triangles (buffers .work)) ≡ accepted (jobIn ids rows marks proposals) buffers
+    → count ≡ length (frontSkin h rows points outward final) → triangles ≡ written (flatten (frontSkin h rows points outward final)) (buffers .triangles)
+    → result (record { code = 0; place = 0; taken = taken-count; triangles = count }) (lent answers final triangles (buffers .work)) ≡ accepted outward (jobIn h rows marks proposals points) buffers
 unfolding accepted
-grown {rows = rows} {marks = marks} {proposals = proposals} {buffers = buffers} g {final = final} et ea ef ec el ids =
+grown outward {h = h} {rows = rows} {marks = marks} {proposals = proposals} {points = points} {buffers = buffers} g {final = final} et ea ef ec el =
     rw (et, ea, ec, el, front, ef) (ap (λ (w : List ℕ). result (record { code = 0; place = 0; taken = taken given; triangles = length sk }) (lent (written given (buffers .answers)) (written ms (buffers .finalMarks)) (written (flatten sk) (buffers .triangles)) w)) (g .listed))
   where
     given : List ℕ
@@ -180,7 +265,7 @@ grown {rows = rows} {marks = marks} {proposals = proposals} {buffers = buffers} 
     ms = finalMarks (tableIn rows) marks (proposalsIn proposals)
 
     sk : List (List ℕ)
-    sk = skin (tableIn rows) (insideIn ms)
+    sk = skinAs (tableIn rows) (insideIn ms) (triangleAs (tableIn rows) outward (pointsOf track (meant h) points))
 
     front : take (rowsIn rows) final ≡ ms
     front = ap (take (rowsIn rows)) ef ∙ front-written ms (buffers .finalMarks) (sym (g .each) ∙ sym (final-length (tableIn rows) marks (proposalsIn proposals)))

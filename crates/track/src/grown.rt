@@ -1,20 +1,20 @@
 // An accepted job: its proposals are answered and its skin is listed. Code 0.
 use crate::Outcome;
 use growth::answer_all;
+use job::Header;
 use skin_list::list_skin;
 use table::row_count;
 ghost use mathlib.Core.Path.{_≡_};
 ghost use mathlib.Core.List.{flatten};
-ghost use Prim.Native.Nat.{ℕ, _*_, _/_, _≤_};
-ghost use lib.ListN.{length, take};
-ghost use Rattle.rules.specs.Skin.{skin};
-ghost use Rattle.rules.specs.Proposals.{insideIn, answersTo, finalMarks, taken};
+ghost use Prim.Native.Nat.{_*_, _/_, _≤_};
+ghost use lib.ListN.{length};
+ghost use Rattle.rules.specs.Proposals.{answersTo, finalMarks, taken};
 ghost use Rattle.rules.specs.Job.{written, accepted};
 ghost use Rattle.table.specs.Rows.{tableIn, rowsIn};
-ghost use Rattle.table.specs.Ground.{Grounded, ClosedGround};
+ghost use Rattle.table.specs.Ground.{Ground, ClosedGround};
 ghost use Rattle.growth.specs.Answers.{proposalsIn};
 ghost use Rattle.track.specs.Outcomes.{lent, result};
-ghost use Rattle.track.specs.Stages.{jobIn, Ready};
+ghost use Rattle.track.specs.Stages.{jobIn, Ready, OnGrid, frontSkin};
 
 fn copy(from: &[u8], to: &mut [u8])
     requires { ⌜ length (now from) ≤ length (now to) ⌝ }
@@ -46,31 +46,52 @@ fn answer_copied(
     answer_all(rows, work, proposals, answers, &mut final_marks[..n])
 }
 
-// The skin of the marks at the front of the final marks.
-fn list_front(rows: &[u8], final_marks: &[u8], triangles: &mut [u32], work: &[u32]) -> usize
-    requires { ⌜ Grounded (now rows) (now work) × (rowsIn (now rows) ≤ length (now «final_marks»)) × (6 * rowsIn (now rows) ≤ length (now triangles)) ⌝ }
-    ensures { λ r. ⌜ (r ≡ length (skin (tableIn (now (rows .entry))) (insideIn (take (rowsIn (now (rows .entry))) (now («final_marks» .entry))))))
-        × (now (triangles .exit) ≡ written (flatten (skin (tableIn (now (rows .entry))) (insideIn (take (rowsIn (now (rows .entry))) (now («final_marks» .entry)))))) (now (triangles .entry))) ⌝ }
+// The skin of the marks at the front of the final marks, outward where that is asked for and there are points.
+fn list_front(
+    h: Header,
+    rows: &[u8],
+    points: &[u8],
+    outward: bool,
+    final_marks: &[u8],
+    triangles: &mut [u32],
+    work: &[u32],
+) -> usize
+    requires { ⌜ Ground (now rows) (now work) (h .ids) × (rowsIn (now rows) ≤ length (now «final_marks»)) × (6 * rowsIn (now rows) ≤ length (now triangles)) × OnGrid h (now points) ⌝ }
+    ensures { λ r. ⌜ (r ≡ length (frontSkin h (now (rows .entry)) (now (points .entry)) outward (now («final_marks» .entry))))
+        × (now (triangles .exit) ≡ written (flatten (frontSkin h (now (rows .entry)) (now (points .entry)) outward (now («final_marks» .entry)))) (now (triangles .entry))) ⌝ }
 {
     let n = row_count(rows);
-    list_skin(rows, work, &final_marks[..n], triangles)
+    let asked = outward & h.has_points();
+    list_skin(
+        rows,
+        work,
+        &final_marks[..n],
+        points,
+        h.ids,
+        asked,
+        triangles,
+    )
 }
 
 pub(crate) fn grow(
+    h: Header,
     rows: &[u8],
     marks: &[u8],
     proposals: &[u8],
+    points: &[u8],
+    outward: bool,
     answers: &mut [u8],
     final_marks: &mut [u8],
     triangles: &mut [u32],
     work: &[u32],
 ) -> Outcome
-    requires { ⌜ ((ids : ℕ) × Ready ids (now rows) (now marks) (now proposals) (lent (now answers) (now «final_marks») (now triangles) (now work))) ⌝ }
-    ensures { λ r. ⌜ ((ids : ℕ) → result r (lent (now (answers .exit)) (now («final_marks» .exit)) (now (triangles .exit)) (now (work .entry)))
-        ≡ accepted (jobIn ids (now (rows .entry)) (now (marks .entry)) (now (proposals .entry))) (lent (now (answers .entry)) (now («final_marks» .entry)) (now (triangles .entry)) (now (work .entry)))) ⌝ }
+    requires { ⌜ Ready h (now rows) (now marks) (now proposals) (now points) (lent (now answers) (now «final_marks») (now triangles) (now work)) × OnGrid h (now points) ⌝ }
+    ensures { λ r. ⌜ result r (lent (now (answers .exit)) (now («final_marks» .exit)) (now (triangles .exit)) (now (work .entry)))
+        ≡ accepted outward (jobIn h (now (rows .entry)) (now (marks .entry)) (now (proposals .entry)) (now (points .entry)))
+        (lent (now (answers .entry)) (now («final_marks» .entry)) (now (triangles .entry)) (now (work .entry))) ⌝ }
 {
     let taken = answer_copied(rows, marks, proposals, answers, final_marks, work);
-    let count = list_front(rows, final_marks, triangles, work);
+    let count = list_front(h, rows, points, outward, final_marks, triangles, work);
     Outcome {
         code: 0,
         place: 0,

@@ -1,4 +1,4 @@
-// The run: a job is read, its table and its marks are checked, its proposals are answered and its skin is listed.
+// The run: a job is read, its table, its marks and its points are checked, its proposals are answered and its skin is listed.
 mod grown;
 
 use grown::grow;
@@ -8,18 +8,25 @@ use job::read;
 use job::room_short;
 use marks::Unfit;
 use marks::check_marks;
+use points::Misplaced;
+use points::check_points;
 use table::Broken;
 use table::check;
 use table::clear;
 ghost use mathlib.Core.Path.{_≡_};
 ghost use Prim.Native.Nat.{_≤_};
 ghost use lib.ListN.{length};
-ghost use Rattle.rules.specs.Job.{track, mostIds, workRoom, jobOf, run};
+ghost use Rattle.rules.specs.First.{firstMatch};
+ghost use Rattle.rules.specs.Job.{track, mostIds, pointBytes, pointsOf, workRoom, jobOf, pointTests, run};
 ghost use Rattle.job.specs.Reading.{meant};
 ghost use Rattle.table.specs.Closed as closed;
+ghost use Rattle.table.specs.Rows.{tableIn};
+ghost use Rattle.table.specs.Ground.{Ground};
+ghost use Rattle.rings.specs.Far.{Marked};
 ghost use Rattle.marks.specs.Start as start;
+ghost use Rattle.points.specs.Placed as placed;
 ghost use Rattle.track.specs.Outcomes.{refusal, lent, result};
-ghost use Rattle.track.specs.Stages.{jobIn, fromTable, fromMarks, Ready, Laid};
+ghost use Rattle.track.specs.Stages.{jobIn, laterTests, fromTable, fromMarks, Ready, Laid};
 
 // Code and place as document 01 has them, and the numbers of proposals taken and of skin triangles.
 pub struct Outcome {
@@ -66,32 +73,78 @@ fn of_marks(unfit: Unfit) -> Outcome
     }
 }
 
+// Codes 13 to 15, or 0.
+fn of_points(misplaced: Misplaced) -> Outcome
+    ensures { λ r. ⌜ r ≡ refusal (placed.verdictOf misplaced) ⌝ }
+{
+    match misplaced {
+        Misplaced::Nothing => refused(0, 0),
+        Misplaced::Point(id) => refused(13, id),
+        Misplaced::Flat(row) => refused(14, row),
+        Misplaced::Folded(row) => refused(15, row),
+    }
+}
+
+// The points, where there are any.
+fn look_at_points(h: Header, rows: &[u8], neighbours: &[u32], points: &[u8]) -> Outcome
+    requires { ⌜ Ground (now rows) (now neighbours) (h .ids) × (h .ids ≤ mostIds) × (length (now points) ≡ pointBytes track (meant h)) ⌝ }
+    ensures { λ r. ⌜ r ≡ refusal (firstMatch 13 (pointTests (tableIn (now (rows .entry))) (h .ids) (pointsOf track (meant h) (now (points .entry))))) ⌝ }
+{
+    if h.has_points() {
+        return of_points(check_points(rows, neighbours, points, h.ids));
+    }
+    refused(0, 0)
+}
+
+// The marks, and then the points: codes 10 to 15, or 0.
+fn look_at_marks_and_points(
+    h: Header,
+    rows: &[u8],
+    neighbours: &[u32],
+    marks: &[u8],
+    points: &[u8],
+) -> Outcome
+    requires { ⌜ Marked (now rows) (now neighbours) (now marks) (h .ids) × (length (now points) ≡ pointBytes track (meant h)) ⌝ }
+    ensures { λ r. ⌜ r ≡ refusal (firstMatch 10 (laterTests (tableIn (now (rows .entry))) (h .ids) (now (marks .entry)) (pointsOf track (meant h) (now (points .entry))))) ⌝ }
+{
+    let found = of_marks(check_marks(rows, neighbours, marks, h.ids));
+    if found.code != 0 {
+        return found;
+    }
+    look_at_points(h, rows, neighbours, points)
+}
+
 // From the starting marks on, with the neighbour list at the front of the work words.
 fn run_closed(
     h: Header,
     rows: &[u8],
     marks: &[u8],
     proposals: &[u8],
+    points: &[u8],
+    outward: bool,
     answers: &mut [u8],
     final_marks: &mut [u8],
     triangles: &mut [u32],
     work: &mut [u32],
 ) -> Outcome
-    requires { ⌜ Ready (h .ids) (now rows) (now marks) (now proposals) (lent (now answers) (now «final_marks») (now triangles) (now work))
-        × (h .ids ≤ mostIds) × (length (now work) ≡ workRoom track (meant h)) ⌝ }
+    requires { ⌜ Ready h (now rows) (now marks) (now proposals) (now points) (lent (now answers) (now «final_marks») (now triangles) (now work))
+        × (length (now work) ≡ workRoom track (meant h)) ⌝ }
     ensures { λ r. ⌜ result r (lent (now (answers .exit)) (now («final_marks» .exit)) (now (triangles .exit)) (now (work .exit)))
-        ≡ fromMarks h (jobIn (h .ids) (now (rows .entry)) (now (marks .entry)) (now (proposals .entry)))
+        ≡ fromMarks outward h (jobIn h (now (rows .entry)) (now (marks .entry)) (now (proposals .entry)) (now (points .entry)))
         (lent (now (answers .entry)) (now («final_marks» .entry)) (now (triangles .entry)) (now (work .entry))) ⌝ }
 {
-    let found = of_marks(check_marks(rows, work, marks, h.ids));
+    let found = look_at_marks_and_points(h, rows, work, marks, points);
     if found.code != 0 {
         clear(work);
         return found;
     }
     grow(
+        h,
         rows,
         marks,
         proposals,
+        points,
+        outward,
         answers,
         final_marks,
         triangles,
@@ -103,6 +156,7 @@ fn run_closed(
 fn run_laid(
     h: Header,
     job: &[u8],
+    outward: bool,
     answers: &mut [u8],
     final_marks: &mut [u8],
     triangles: &mut [u32],
@@ -110,24 +164,28 @@ fn run_laid(
 ) -> Outcome
     requires { ⌜ Laid h (now job) (lent (now answers) (now «final_marks») (now triangles) (now work)) ⌝ }
     ensures { λ r. ⌜ result r (lent (now (answers .exit)) (now («final_marks» .exit)) (now (triangles .exit)) (now (work .exit)))
-        ≡ fromTable h (jobOf track (now (job .entry)))
+        ≡ fromTable outward h (jobOf track (now (job .entry)))
         (lent (now (answers .entry)) (now («final_marks» .entry)) (now (triangles .entry)) (now (work .entry))) ⌝ }
 {
     let rows_at = h.rows_at();
     let marks_at = h.marks_at();
     let proposals_at = h.proposals_at();
+    let points_at = h.points_at();
     let rows = &job[rows_at..marks_at];
     let found = of_table(check(rows, h.ids, work));
     if found.code != 0 {
         return found;
     }
     let marks = &job[marks_at..proposals_at];
-    let proposals = &job[proposals_at..];
+    let proposals = &job[proposals_at..points_at];
+    let points = &job[points_at..];
     run_closed(
         h,
         rows,
         marks,
         proposals,
+        points,
+        outward,
         answers,
         final_marks,
         triangles,
@@ -135,16 +193,18 @@ fn run_laid(
     )
 }
 
-// Runs a job. Every slice of bytes has an answer.
+// Runs a job. Every slice of bytes has an answer. Where the job has points, the skin is listed outward if that is asked for; else the ids
+// of each triangle rise.
 pub fn run(
     job: &[u8],
+    outward: bool,
     answers: &mut [u8],
     final_marks: &mut [u8],
     triangles: &mut [u32],
     work: &mut [u32],
 ) -> Outcome
     ensures { λ r. ⌜ result r (lent (now (answers .exit)) (now («final_marks» .exit)) (now (triangles .exit)) (now (work .exit)))
-        ≡ run track (now (job .entry)) (lent (now (answers .entry)) (now («final_marks» .entry)) (now (triangles .entry)) (now (work .entry))) ⌝ }
+        ≡ run track outward (now (job .entry)) (lent (now (answers .entry)) (now («final_marks» .entry)) (now (triangles .entry)) (now (work .entry))) ⌝ }
 {
     match read(job) {
         Reading::Short => refused(1, 0),
@@ -161,7 +221,15 @@ pub fn run(
                 return refused(4, 0);
             }
             let room = h.work_room();
-            run_laid(h, job, answers, final_marks, triangles, &mut work[..room])
+            run_laid(
+                h,
+                job,
+                outward,
+                answers,
+                final_marks,
+                triangles,
+                &mut work[..room],
+            )
         }
     }
 }

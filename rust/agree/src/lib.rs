@@ -1,8 +1,9 @@
 //! Runs the proved engine and `plain` on the same job and compares the outcome
-//! and every byte and word of every lent buffer.
+//! and every byte and word of every lent buffer. A job with points is run in
+//! both orders, and its outward list is looked at by itself.
 
-use common::Buffers;
-use jobs::Job;
+use common::{Buffers, Outcome};
+use jobs::{outward, Job};
 use std::fmt::Debug;
 use std::path::PathBuf;
 use std::{env, fs, thread};
@@ -13,13 +14,31 @@ pub struct Comparer {
     folder: PathBuf,
     pub jobs: usize,
     /// How often each code was given.
-    pub codes: [usize; 13],
+    pub codes: [usize; 16],
     /// How often each answer was given to an add, a remove and any other kind,
     /// with the outer rows outside and with them inside.
     pub answers: [[[usize; 8]; 3]; 2],
     /// How often code 11 was given with the lowest outer row outside, and with
     /// it inside.
     pub unlike: [usize; 2],
+    /// How often the outward list was another than the rising one, with the
+    /// outer rows outside and with them inside.
+    pub turned: [usize; 2],
+}
+
+/// What both engines gave and left.
+struct Ran {
+    outcome: Outcome,
+    left: Buffers,
+}
+
+impl Ran {
+    /// The triangles listed, and the words behind them.
+    fn triangles(&self) -> (&[[u32; 3]], &[u32]) {
+        let listed = 3 * self.outcome.triangles as usize;
+        let (listed, behind) = self.left.triangles.split_at(listed);
+        (listed.as_chunks().0, behind)
+    }
 }
 
 impl Comparer {
@@ -27,21 +46,49 @@ impl Comparer {
         Comparer {
             folder: folder.into(),
             jobs: 0,
-            codes: [0; 13],
+            codes: [0; 16],
             answers: [[[0; 8]; 3]; 2],
             unlike: [0; 2],
+            turned: [0; 2],
         }
     }
 
     /// Runs both on copies of `buffers` and panics if they disagree. `name` tells
-    /// the job in the message and names the file with its bytes.
+    /// the job in the message and names the file with its bytes. Some jobs
+    /// without points are run in both orders, too.
     pub fn compare(&mut self, name: &str, kind: &str, job: &[u8], buffers: &Buffers) {
+        let rising = self.run_both(name, kind, job, false, buffers);
+        let (listed, _) = rising.triangles();
+        if listed.as_flattened().contains(&0) {
+            self.disagree(name, kind, job, "id 0 is listed");
+        }
+        if says_points(job) || self.jobs.is_multiple_of(8) {
+            let outward = self.run_both(name, kind, job, true, buffers);
+            if let Some(fault) = self.compare_orders(job, &rising, &outward) {
+                self.disagree(name, kind, job, &fault);
+            }
+        }
+        self.jobs += 1;
+        self.codes[rising.outcome.code as usize] += 1;
+        if let Some(job) = Job::from_bytes(job) {
+            self.count(&job, &rising);
+        }
+    }
+
+    fn run_both(
+        &self,
+        name: &str,
+        kind: &str,
+        job: &[u8],
+        outward: bool,
+        buffers: &Buffers,
+    ) -> Ran {
         let mut by_track = buffers.clone();
         let mut by_plain = buffers.clone();
-        let track = track::run(job, by_track.lend());
-        let plain = plain::run(job, by_plain.lend());
+        let track = track::run(job, outward, by_track.lend());
+        let plain = plain::run(job, outward, by_plain.lend());
         let differences = [
-            (track != plain).then(|| "outcomes differ".to_string()),
+            (track != plain).then(|| format!("{track:?} by track and {plain:?} by plain")),
             first_difference("answers", &by_track.answers, &by_plain.answers),
             first_difference("final marks", &by_track.final_marks, &by_plain.final_marks),
             first_difference("triangles", &by_track.triangles, &by_plain.triangles),
@@ -49,34 +96,64 @@ impl Comparer {
         ];
         let differences: Vec<String> = differences.into_iter().flatten().collect();
         if !differences.is_empty() {
-            let path = self.folder.join(format!("{name}.job"));
-            let kept = match fs::write(&path, job) {
-                Ok(()) => format!("job kept in {}", path.display()),
-                Err(error) => format!("job not kept: {error}"),
-            };
-            panic!(
-                "{name} ({kind}): {track:?} by track and {plain:?} by plain; {}; {kept}",
-                differences.join("; ")
-            );
+            let order = if outward { "outward" } else { "rising" };
+            let differences = differences.join("; ");
+            self.disagree(name, kind, job, &format!("{order}: {differences}"));
         }
-        self.jobs += 1;
-        self.codes[plain.code as usize] += 1;
-        if let (0 | 11, Some(job)) = (plain.code, Job::from_bytes(job)) {
-            let sky = usize::from(job.sky() == Some(1));
-            if plain.code == 11 {
-                self.unlike[sky] += 1;
-                return;
+        Ran {
+            outcome: track,
+            left: by_track,
+        }
+    }
+
+    fn disagree(&self, name: &str, kind: &str, job: &[u8], what: &str) -> ! {
+        let path = self.folder.join(format!("{name}.job"));
+        let kept = match fs::write(&path, job) {
+            Ok(()) => format!("job kept in {}", path.display()),
+            Err(error) => format!("job not kept: {error}"),
+        };
+        panic!("{name} ({kind}): {what}; {kept}");
+    }
+
+    /// What is wrong where both orders of a job are beside one another: all but
+    /// the triangles is the same, and they are as an outward list must be.
+    fn compare_orders(&mut self, job: &[u8], rising: &Ran, outward: &Ran) -> Option<String> {
+        let ((by_ids, behind), (by_sides, also_behind)) = (rising.triangles(), outward.triangles());
+        let same = rising.outcome == outward.outcome
+            && rising.left.answers == outward.left.answers
+            && rising.left.final_marks == outward.left.final_marks
+            && rising.left.work == outward.left.work
+            && behind == also_behind;
+        if !same {
+            return Some("the order changes more than the triangles".to_string());
+        }
+        if rising.outcome.code != 0 {
+            return None;
+        }
+        let turned = by_ids != by_sides;
+        let job = Job::from_bytes(job).filter(|job| job.points.is_some());
+        let Some(job) = job else {
+            return turned.then(|| "triangles are turned without points".to_string());
+        };
+        self.turned[sky_of(&job)] += usize::from(turned);
+        outward::fault(&job, &rising.left.final_marks, by_ids, by_sides)
+    }
+
+    fn count(&mut self, job: &Job, ran: &Ran) {
+        let sky = sky_of(job);
+        match ran.outcome.code {
+            0 => {
+                for ([_, kind], &answer) in job.proposals.iter().zip(&ran.left.answers) {
+                    let kind = match *kind {
+                        Job::ADD => 0,
+                        Job::REMOVE => 1,
+                        _ => 2,
+                    };
+                    self.answers[sky][kind][usize::from(answer)] += 1;
+                }
             }
-            let listed = &by_track.triangles[..3 * track.triangles as usize];
-            assert!(!listed.contains(&0), "{name} ({kind}): id 0 is listed");
-            for ([_, kind], &answer) in job.proposals.iter().zip(&by_plain.answers) {
-                let kind = match *kind {
-                    Job::ADD => 0,
-                    Job::REMOVE => 1,
-                    _ => 2,
-                };
-                self.answers[sky][kind][usize::from(answer)] += 1;
-            }
+            11 => self.unlike[sky] += 1,
+            _ => {}
         }
     }
 
@@ -98,10 +175,20 @@ impl Comparer {
 
     pub fn report(&self, title: &str) {
         println!(
-            "{title}: {} jobs, codes {:?}, unlike marks {:?}, answers {:?}",
-            self.jobs, self.codes, self.unlike, self.answers
+            "{title}: {} jobs, codes {:?}, unlike marks {:?}, answers {:?}, turned {:?}",
+            self.jobs, self.codes, self.unlike, self.answers, self.turned
         );
     }
+}
+
+/// Whether word 7 says that there are points.
+fn says_points(job: &[u8]) -> bool {
+    job.get(28..32) == Some(&[1, 0, 0, 0])
+}
+
+/// 1 if the lowest outer row is inside, else 0.
+fn sky_of(job: &Job) -> usize {
+    usize::from(job.sky() == Some(1))
 }
 
 fn first_difference<T: PartialEq + Debug>(what: &str, track: &[T], plain: &[T]) -> Option<String> {

@@ -3,7 +3,7 @@
 
 use agree::{setting, with_stack, Comparer};
 use common::{Rooms, FEWEST_IDS, MOST_IDS, MOST_PROPOSALS, MOST_ROWS};
-use jobs::{cases, growth, tables, Job, Random, Table};
+use jobs::{cases, growth, placed, tables, Job, Random, Table};
 use std::fs;
 
 const STORED: &str = concat!(env!("CARGO_MANIFEST_DIR"), "/../../jobs");
@@ -39,10 +39,12 @@ fn random_jobs() {
                 codes,
                 answers,
                 unlike,
+                turned,
                 ..
             } = comparer;
             assert!(codes.iter().all(|&given| given >= 100), "{codes:?}");
             assert!(unlike.iter().all(|&given| given >= 50), "{unlike:?}");
+            assert!(turned.iter().all(|&lists| lists >= 500), "{turned:?}");
             assert!(comparer.each_answer(500), "{answers:?}");
         }
     });
@@ -56,8 +58,12 @@ fn large_jobs() {
         let mut comparer = comparer();
         for number in (first..).take(rounds as usize) {
             let random = &mut Random::new(number);
-            for (family, table) in tables::each_family(MOST_ROWS, random) {
-                let case = cases::case_on(family, &table, random);
+            let without = tables::each_family(MOST_ROWS, random).into_iter();
+            let without = without.map(|(family, table)| (family, table, None));
+            let with = placed::each_family(MOST_ROWS, random).into_iter();
+            let with = with.map(|(family, placed)| (family, placed.table, Some(placed.points)));
+            for (family, table, points) in without.chain(with) {
+                let case = cases::case_on(family, &table, points, random);
                 let buffers = random.buffers(case.rooms);
                 let name = format!("large-{number}-{}", family.replace(' ', "-"));
                 comparer.compare(&name, &case.kind, &case.job, &buffers);
@@ -65,8 +71,14 @@ fn large_jobs() {
         }
         comparer.report("large jobs");
         if rounds >= 25 {
-            let Comparer { codes, answers, .. } = comparer;
+            let Comparer {
+                codes,
+                answers,
+                turned,
+                ..
+            } = comparer;
             assert!(codes[0] >= 60, "{codes:?}");
+            assert!(turned.iter().all(|&lists| lists >= 5), "{turned:?}");
             assert!(comparer.each_answer(50), "{answers:?}");
         }
     });
@@ -87,8 +99,8 @@ fn stored_jobs() {
             }
         }
         comparer.report("stored jobs");
-        // They show each code but 4, which is about room, and each answer: to
-        // adds and to removes, and with the sky inside.
+        // They show each code but 4, which is about room, each answer, to adds
+        // and to removes, and with the sky inside, and lists that are turned.
         for (code, &count) in comparer.codes.iter().enumerate() {
             assert_eq!(count > 0, code != 4, "code {code}");
         }
@@ -96,17 +108,22 @@ fn stored_jobs() {
         assert!(comparer.each_answer_under(0, 1), "{answers:?}");
         let given_inside = |answer: usize| answers[1].iter().any(|kind| kind[answer] > 0);
         assert!((0..8).all(given_inside), "{answers:?}");
+        assert!(
+            comparer.turned.iter().all(|&lists| lists > 0),
+            "{:?}",
+            comparer.turned
+        );
     });
 }
 
-/// Jobs A, A with the sky inside, and B, with each length, and with each byte
-/// changed.
+/// Jobs A, A with the sky inside, A with points, and B, with each length, and
+/// with each byte changed.
 #[test]
 fn every_length_and_byte() {
     with_stack(|| {
         let mut comparer = comparer();
         let random = &mut Random::new(3);
-        for name in ["a", "sky", "b"] {
+        for name in ["a", "sky", "points", "b"] {
             let job = fs::read(format!("{STORED}/{name}.job")).expect("a stored job");
             let buffers = random.buffers(Rooms::exact(13, 9));
             for at in 0..job.len() {
@@ -124,6 +141,62 @@ fn every_length_and_byte() {
             }
         }
         comparer.report("every length and byte");
+    });
+}
+
+/// Jobs with a row that is just flat, or just folded, with each byte of their
+/// points changed.
+#[test]
+fn every_byte_of_points() {
+    with_stack(|| {
+        let mut comparer = comparer();
+        let random = &mut Random::new(10);
+        for name in ["flat", "folded"] {
+            let bytes = fs::read(format!("{STORED}/{name}.job")).expect("a stored job");
+            let job = Job::from_bytes(&bytes).expect("a layout");
+            let buffers = random.buffers(job.rooms());
+            for at in job.counts().points_at()..bytes.len() {
+                for change in 1..=255 {
+                    let mut changed = bytes.clone();
+                    changed[at] ^= change;
+                    comparer.compare("points", name, &changed, &buffers);
+                }
+            }
+        }
+        comparer.report("every byte of points");
+        for code in [0, 13, 14, 15] {
+            assert!(comparer.codes[code] >= 100, "{:?}", comparer.codes);
+        }
+    });
+}
+
+/// Job A's tetrahedron on corners of the grid, under either sky: the largest
+/// volumes, and flat ones.
+#[test]
+fn every_corner_of_the_grid() {
+    with_stack(|| {
+        let mut comparer = comparer();
+        let random = &mut Random::new(11);
+        let table = tables::simplex();
+        let end = |bit: usize| if bit & 1 == 1 { 1023 } else { -1023 };
+        let corner = |bits: usize| [end(bits), end(bits >> 1), end(bits >> 2)];
+        for bits in 0..1 << 12 {
+            let corners = [0, 3, 6, 9].map(|at| corner(bits >> at));
+            for sky in [0, 1] {
+                let job = Job {
+                    marks: growth::even_marks(&table, sky, 1 - sky),
+                    points: Some([&[[0; 3]], &corners[..]].concat()),
+                    ..table.job()
+                };
+                let buffers = random.buffers(job.rooms());
+                comparer.compare("corners", "corners of the grid", &job.bytes(), &buffers);
+            }
+        }
+        comparer.report("every corner of the grid");
+        // A cube has 58 tetrahedra at its corners, each in 24 orders.
+        assert_eq!(comparer.codes[0], 2 * 58 * 24);
+        assert_eq!(comparer.codes[0] + comparer.codes[14], 2 << 12);
+        assert_eq!(comparer.turned, [comparer.codes[0] / 2; 2]);
     });
 }
 
@@ -165,6 +238,36 @@ fn every_limit() {
     });
 }
 
+/// The same of jobs with points: the largest block, and one more id or proposal
+/// than a job may have.
+#[test]
+fn every_limit_with_points() {
+    with_stack(|| {
+        let mut comparer = comparer();
+        let random = &mut Random::new(9);
+        let block = placed::block([4, 8, 8], random);
+        let mut job = block.job();
+        job.marks = growth::grown_marks(&block.table, MOST_PROPOSALS, random);
+        growth::propose(&mut job, MOST_PROPOSALS, 60, random);
+        assert_eq!(job.rows.len(), MOST_ROWS);
+        for ids in [block.table.ids, MOST_IDS as u32, MOST_IDS as u32 + 1] {
+            job.ids = ids;
+            job.points = Some(block.points.clone());
+            let points = job.points.iter_mut();
+            points.for_each(|points| points.resize(ids as usize, [-1023, 0, 1023]));
+            for proposals in [0, MOST_PROPOSALS, MOST_PROPOSALS + 1] {
+                let mut job = job.clone();
+                job.proposals.resize(proposals, [0, 0]);
+                let kind = format!("{:?}", job.counts());
+                comparer.compare("limit", &kind, &job.bytes(), &random.buffers(job.rooms()));
+            }
+        }
+        comparer.report("every limit with points");
+        assert_eq!(comparer.codes[0], 2 * 2);
+        assert_eq!(comparer.turned, [4, 0]);
+    });
+}
+
 /// Job A with each room for each buffer.
 #[test]
 fn every_room() {
@@ -201,17 +304,27 @@ fn every_room() {
     });
 }
 
+/// The small tables, and some with points, each with its job.
+fn small_jobs(random: &mut Random) -> Vec<(Table, Job)> {
+    let without = tables::small(random);
+    let mut all: Vec<(Table, Job)> = without.into_iter().map(|t| (t.clone(), t.job())).collect();
+    for most in [5, 8, 11, 14] {
+        let placed = placed::splits(most, random);
+        all.push((placed.table.clone(), placed.job()));
+    }
+    all
+}
+
 /// Every marking of small tables.
 #[test]
 fn every_marking() {
     with_stack(|| {
         let mut comparer = comparer();
         let random = &mut Random::new(8);
-        for table in tables::small(random) {
+        for (table, mut job) in small_jobs(random) {
             if table.rows.len() > 12 {
                 continue;
             }
-            let mut job = table.job();
             let buffers = random.buffers(job.rooms());
             for marks in growth::every_marking(&table) {
                 job.marks = marks;
@@ -231,17 +344,19 @@ fn every_start_and_proposal() {
     with_stack(|| {
         let mut comparer = comparer();
         let random = &mut Random::new(5);
-        for table in tables::small(random) {
-            compare_starts(&mut comparer, &table, random);
+        for (table, job) in small_jobs(random) {
+            compare_starts(&mut comparer, &table, &job, random);
         }
         comparer.report("every start and proposal");
         assert_eq!(comparer.unlike, [0, 0]);
+        let turned = comparer.turned;
+        assert!(turned.iter().all(|&lists| lists > 500), "{turned:?}");
     });
 }
 
-fn compare_starts(comparer: &mut Comparer, table: &Table, random: &mut Random) {
+fn compare_starts(comparer: &mut Comparer, table: &Table, empty: &Job, random: &mut Random) {
     for marks in growth::every_start(table) {
-        let mut job = table.job();
+        let mut job = empty.clone();
         job.marks = marks;
         let buffers = random.buffers(Rooms::exact(job.rows.len(), 1));
         let clean_before = comparer.codes[0];

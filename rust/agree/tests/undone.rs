@@ -10,20 +10,22 @@ struct Ran {
     outcome: Outcome,
     answers: Vec<u8>,
     marks: Vec<u8>,
+    triangles: Vec<u32>,
 }
 
 fn ran(job: &Job) -> Ran {
     let mut buffers = Buffers::filled(job.rooms(), 9);
-    let outcome = track::run(&job.bytes(), buffers.lend());
+    let outcome = track::run(&job.bytes(), true, buffers.lend());
     Ran {
         outcome,
         answers: buffers.answers,
         marks: buffers.final_marks,
+        triangles: buffers.triangles,
     }
 }
 
-/// The same rows with the final marks, and the taken proposals backwards with
-/// add and remove exchanged.
+/// The same rows and points with the final marks, and the taken proposals
+/// backwards with add and remove exchanged.
 fn undoing(job: &Job, ran: &Ran) -> Job {
     let taken = job.proposals.iter().zip(&ran.answers).rev();
     Job {
@@ -66,12 +68,13 @@ fn cut(job: &Job, run: &Ran, k: usize) {
     assert_eq!(resumed.outcome.code, 0);
     assert_eq!(resumed.answers, run.answers[k..]);
     assert_eq!(resumed.marks, run.marks);
+    assert_eq!(resumed.triangles, run.triangles);
 }
 
 fn every_case() {
     let count = setting("AGREE_JOBS", 20_000) / 4;
     let first = setting("AGREE_SEED", 1);
-    let [mut accepted, mut taken] = [0, 0];
+    let [mut accepted, mut with_points, mut taken] = [0, 0, 0];
     for number in (first..).take(count as usize) {
         let case = cases::case(number, 5 + (number % 90) as usize);
         let Some(job) = Job::from_bytes(&case.job) else {
@@ -88,11 +91,16 @@ fn every_case() {
             Random::new(number).below(job.proposals.len() + 1),
         );
         accepted += 1;
+        with_points += u32::from(job.points.is_some());
         taken += run.outcome.taken;
     }
-    println!("{accepted} jobs run backwards and cut, {taken} proposals taken back");
+    println!(
+        "{accepted} jobs run backwards and cut, {with_points} of them with points, \
+         {taken} proposals taken back"
+    );
     if count >= 5_000 {
-        assert!(accepted >= 1_000 && taken >= 10_000, "{accepted} {taken}");
+        let enough = accepted >= 1_000 && with_points >= 300 && taken >= 10_000;
+        assert!(enough, "{accepted} {with_points} {taken}");
     }
 }
 

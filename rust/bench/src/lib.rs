@@ -9,6 +9,7 @@ use std::time::{Duration, Instant};
 /// and the best time of each engine.
 pub struct Timed {
     job: Vec<u8>,
+    outward: bool,
     buffers: Buffers,
     pub outcome: Outcome,
     pub track: Duration,
@@ -16,12 +17,15 @@ pub struct Timed {
 }
 
 impl Timed {
+    /// The triangles of a job with points are listed outward.
     pub fn new(job: &Job) -> Timed {
         let mut buffers = Buffers::zeros(job.rooms());
+        let outward = job.points.is_some();
         let job = job.bytes();
         Timed {
-            outcome: track::run(&job, buffers.lend()),
+            outcome: track::run(&job, outward, buffers.lend()),
             job,
+            outward,
             buffers,
             track: Duration::MAX,
             plain: Duration::MAX,
@@ -31,17 +35,17 @@ impl Timed {
     /// Runs both engines once more.
     pub fn run(&mut self) {
         let before = Instant::now();
-        track::run(&self.job, self.buffers.lend());
+        track::run(&self.job, self.outward, self.buffers.lend());
         self.track = self.track.min(before.elapsed());
         let before = Instant::now();
-        plain::run(&self.job, self.buffers.lend());
+        plain::run(&self.job, self.outward, self.buffers.lend());
         self.plain = self.plain.min(before.elapsed());
     }
 
     /// The stages of one run of `plain`.
     pub fn stages(&mut self) -> Stages {
         let mut stages = Stages::default();
-        plain::run_timed(&self.job, self.buffers.lend(), &mut stages);
+        plain::run_timed(&self.job, self.outward, self.buffers.lend(), &mut stages);
         stages
     }
 }

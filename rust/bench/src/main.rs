@@ -2,6 +2,7 @@
 //! Markdown tables, in microseconds: the best of many runs.
 
 mod early;
+mod points;
 
 use bench::{micros, Timed};
 use common::{MOST_PROPOSALS, MOST_ROWS};
@@ -69,6 +70,7 @@ fn main() {
         );
     }
     early::print();
+    points::print();
 }
 
 fn start(job: &Job) -> &'static str {
@@ -146,6 +148,7 @@ fn least(x: &Stages, y: &Stages) -> Stages {
         edges: x.edges.min(y.edges),
         vertices: x.vertices.min(y.vertices),
         clean: x.clean.min(y.clean),
+        points: x.points.min(y.points),
         proposals: x.proposals.min(y.proposals),
         list: x.list.min(y.list),
     }

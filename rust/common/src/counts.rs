@@ -13,6 +13,8 @@ pub const IDS: RangeInclusive<usize> = FEWEST_IDS..=MOST_IDS;
 pub const ROWS: RangeInclusive<usize> = FEWEST_ROWS..=MOST_ROWS;
 /// The limits of P.
 pub const PROPOSALS: RangeInclusive<usize> = 0..=MOST_PROPOSALS;
+/// The limits of a coordinate, in units of 1/16 metre.
+pub const GRID: RangeInclusive<i16> = -1023..=1023;
 
 pub const WORD_BYTES: usize = 4;
 pub const HEADER_WORDS: usize = 8;
@@ -22,9 +24,12 @@ pub const ROW_BYTES: usize = 4 * WORD_BYTES;
 pub const MARK_BYTES: usize = 1;
 /// A row number and a kind.
 pub const PROPOSAL_BYTES: usize = 2 * WORD_BYTES;
+pub const COORDINATE_BYTES: usize = 2;
+/// Three coordinates.
+pub const POINT_BYTES: usize = 3 * COORDINATE_BYTES;
 
-/// The counts of a job. They alone decide its layout, and need not be within
-/// their limits for that.
+/// The counts of a job, and whether it has points. They alone decide its
+/// layout, and need not be within their limits for that.
 #[derive(Clone, Copy, Debug, PartialEq, Eq)]
 pub struct Counts {
     /// V
@@ -33,9 +38,22 @@ pub struct Counts {
     pub rows: usize,
     /// P
     pub proposals: usize,
+    /// Whether V points stand behind the proposals.
+    pub with_points: bool,
 }
 
 impl Counts {
+    /// What a header counts. Its other words need not fit: those that do are
+    /// `header`'s.
+    pub fn told_by(header: &[u32; HEADER_WORDS]) -> Counts {
+        Counts {
+            ids: header[0] as usize,
+            rows: header[1] as usize,
+            proposals: header[2] as usize,
+            with_points: header[7] == 1,
+        }
+    }
+
     pub fn within_limits(&self) -> bool {
         IDS.contains(&self.ids) && ROWS.contains(&self.rows) && PROPOSALS.contains(&self.proposals)
     }
@@ -52,8 +70,17 @@ impl Counts {
         self.marks_at() + MARK_BYTES * self.rows
     }
 
-    pub const fn length(&self) -> usize {
+    /// Where the points stand, or would.
+    pub const fn points_at(&self) -> usize {
         self.proposals_at() + PROPOSAL_BYTES * self.proposals
+    }
+
+    pub const fn length(&self) -> usize {
+        if self.with_points {
+            self.points_at() + POINT_BYTES * self.ids
+        } else {
+            self.points_at()
+        }
     }
 
     /// The header words; of a number too large for a word, the low one.
@@ -66,7 +93,7 @@ impl Counts {
             self.marks_at(),
             self.proposals_at(),
             self.length(),
-            0,
+            usize::from(self.with_points),
         ];
         words.map(|word| word as u32)
     }
@@ -83,14 +110,20 @@ mod tests {
 
     #[test]
     fn largest_job() {
-        let counts = Counts {
-            ids: 1024,
-            rows: 2048,
-            proposals: 1024,
-        };
-        assert!(counts.within_limits());
-        let header = [1024, 2048, 1024, 32, 32_800, 34_848, 43_040, 0];
-        assert_eq!(counts.header(), header);
-        assert_eq!(counts.length(), 43_040);
+        for (with_points, length) in [(false, 43_040), (true, 49_184)] {
+            let counts = Counts {
+                ids: 1024,
+                rows: 2048,
+                proposals: 1024,
+                with_points,
+            };
+            assert!(counts.within_limits());
+            let last = u32::from(with_points);
+            let header = [1024, 2048, 1024, 32, 32_800, 34_848, length, last];
+            assert_eq!(counts.header(), header);
+            assert_eq!(Counts::told_by(&header), counts);
+            assert_eq!(counts.points_at(), 43_040);
+            assert_eq!(counts.length(), length as usize);
+        }
     }
 }

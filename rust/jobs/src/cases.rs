@@ -1,7 +1,9 @@
 //! Random jobs of every sort, with the room lent for them.
 
+mod points;
+
 use crate::growth::{even_marks, marks_after, propose, random_marks};
-use crate::{tables, Job, Random, Table};
+use crate::{placed, tables, Job, Point, Random, Table};
 use common::{Rooms, FEWEST_IDS, HEADER_BYTES, HEADER_WORDS, MOST_IDS, MOST_PROPOSALS, MOST_ROWS};
 
 /// A job and the lengths of the buffers lent for it.
@@ -16,12 +18,24 @@ pub struct Case {
 /// The case of this number, on a table of at most about `most` rows.
 pub fn case(number: u64, most: usize) -> Case {
     let random = &mut Random::new(number);
+    if random.chance(30) {
+        let (family, placed) = placed::any(most, random);
+        return case_on(family, &placed.table, Some(placed.points), random);
+    }
     let (family, table) = tables::any(most, random);
-    case_on(family, &table, random)
+    let points = random
+        .chance(6)
+        .then(|| points::scattered(table.ids, random));
+    case_on(family, &table, points, random)
 }
 
-/// A case on this table, which is closed.
-pub fn case_on(family: &str, table: &Table, random: &mut Random) -> Case {
+/// A case on this table, which is closed, with these points.
+pub fn case_on(
+    family: &str,
+    table: &Table,
+    points: Option<Vec<Point>>,
+    random: &mut Random,
+) -> Case {
     let mut kind = format!("{family}, {} rows", table.rows.len());
     let (start, marks) = start_marks(table, random);
     kind += &format!(", {start}");
@@ -37,12 +51,21 @@ pub fn case_on(family: &str, table: &Table, random: &mut Random) -> Case {
     };
     let adds = random.pick(&[10, 30, 50, 70, 90]);
     propose(&mut job, proposals, adds, random);
+    if let Some(points) = points {
+        kind += ", with points";
+        job.points = Some(points);
+        points::one_for_each_id(&mut job, random);
+        if random.chance(40) {
+            kind += &format!(", {}", points::damage(&mut job, random));
+        }
+    }
 
-    if random.chance(45) {
+    if random.chance(if job.points.is_some() { 20 } else { 45 }) {
         for _ in 0..random.pick(&[1, 1, 1, 2]) {
             kind += &format!(", {}", damage(&mut job, random));
         }
     }
+    points::one_for_each_id(&mut job, random);
     let mut rooms = job.rooms();
     let mut bytes = job.bytes();
     if random.chance(10) {
@@ -246,7 +269,7 @@ const AT_LIMITS: [usize; 7] = [
 
 /// Changes the header, the length or any byte.
 fn damage_bytes(bytes: &mut Vec<u8>, random: &mut Random) -> &'static str {
-    match random.below(9) {
+    match random.below(10) {
         0..3 => {
             let at = 4 * random.below(HEADER_WORDS);
             let word = u32::from_le_bytes([bytes[at], bytes[at + 1], bytes[at + 2], bytes[at + 3]]);
@@ -281,6 +304,11 @@ fn damage_bytes(bytes: &mut Vec<u8>, random: &mut Random) -> &'static str {
                 bytes.push(random.bits() as u8);
             }
             "extended"
+        }
+        7 => {
+            let word_7 = random.pick(&[0, 1, 2, 3, 16, 17, 1 << 8, 1 << 16, 1 << 24]);
+            bytes[28..32].copy_from_slice(&u32::to_le_bytes(word_7));
+            "word 7 changed"
         }
         _ => {
             let at = random.below(bytes.len());

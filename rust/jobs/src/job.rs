@@ -1,4 +1,7 @@
-use common::{Counts, Rooms, HEADER_BYTES, WORD_BYTES};
+use common::{Counts, Rooms, COORDINATE_BYTES, HEADER_BYTES, HEADER_WORDS, WORD_BYTES};
+
+/// Three coordinates, in units of 1/16 metre.
+pub type Point = [i16; 3];
 
 /// Rows of four ids below `ids`. Generated tables are closed: rows and the
 /// ids within them rise, and each table rule holds.
@@ -25,6 +28,7 @@ impl Table {
             rows: self.rows.clone(),
             marks: vec![0; self.rows.len()],
             proposals: Vec::new(),
+            points: None,
         }
     }
 }
@@ -38,6 +42,8 @@ pub struct Job {
     pub marks: Vec<u8>,
     /// Row number, then kind.
     pub proposals: Vec<[u32; 2]>,
+    /// One for each id, in a job with points.
+    pub points: Option<Vec<Point>>,
 }
 
 impl Job {
@@ -49,6 +55,7 @@ impl Job {
             ids: self.ids as usize,
             rows: self.rows.len(),
             proposals: self.proposals.len(),
+            with_points: self.points.is_some(),
         }
     }
 
@@ -69,27 +76,34 @@ impl Job {
         put_words(&mut bytes, self.rows.as_flattened());
         bytes.extend(&self.marks);
         put_words(&mut bytes, self.proposals.as_flattened());
+        for coordinate in self.points.iter().flatten().flatten() {
+            bytes.extend(coordinate.to_le_bytes());
+        }
         bytes
     }
 
     /// Reads back what `bytes` lays out. The counts need not be within their
     /// limits; the other header words and the length must fit them.
     pub fn from_bytes(bytes: &[u8]) -> Option<Job> {
-        let header = words(bytes.get(..HEADER_BYTES)?);
-        let counts = Counts {
-            ids: header[0] as usize,
-            rows: header[1] as usize,
-            proposals: header[2] as usize,
-        };
+        let header: [u32; HEADER_WORDS] = words(bytes.get(..HEADER_BYTES)?).try_into().ok()?;
+        let counts = Counts::told_by(&header);
         if bytes.len() != counts.length() || header != counts.header() {
             return None;
         }
-        let [rows, marks, proposals] = [counts.rows_at(), counts.marks_at(), counts.proposals_at()];
+        let [rows, marks, proposals, points] = [
+            counts.rows_at(),
+            counts.marks_at(),
+            counts.proposals_at(),
+            counts.points_at(),
+        ];
         Some(Job {
             ids: header[0],
             rows: groups(&words(&bytes[rows..marks])),
             marks: bytes[marks..proposals].to_vec(),
-            proposals: groups(&words(&bytes[proposals..])),
+            proposals: groups(&words(&bytes[proposals..points])),
+            points: counts
+                .with_points
+                .then(|| groups(&coordinates(&bytes[points..]))),
         })
     }
 }
@@ -103,6 +117,11 @@ fn words(bytes: &[u8]) -> Vec<u32> {
     words.iter().map(|&word| u32::from_le_bytes(word)).collect()
 }
 
-fn groups<const K: usize>(words: &[u32]) -> Vec<[u32; K]> {
-    words.as_chunks::<K>().0.to_vec()
+fn coordinates(bytes: &[u8]) -> Vec<i16> {
+    let (numbers, _) = bytes.as_chunks::<COORDINATE_BYTES>();
+    numbers.iter().map(|&x| i16::from_le_bytes(x)).collect()
+}
+
+fn groups<const K: usize, T: Copy>(numbers: &[T]) -> Vec<[T; K]> {
+    numbers.as_chunks::<K>().0.to_vec()
 }

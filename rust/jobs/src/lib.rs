@@ -2,12 +2,15 @@
 //! benchmarks.
 
 pub mod cases;
+mod geometry;
 pub mod growth;
 mod job;
+pub mod outward;
+pub mod placed;
 mod random;
 pub mod tables;
 pub mod text;
 pub mod worst;
 
-pub use job::{Job, Table};
+pub use job::{Job, Point, Table};
 pub use random::Random;

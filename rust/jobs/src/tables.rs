@@ -4,7 +4,7 @@ mod delaunay;
 mod flips;
 mod surfaces;
 
-pub use delaunay::delaunay;
+pub use delaunay::{delaunay, delaunay_on_grid};
 pub use flips::flips;
 pub use surfaces::{projective_plane, sphere, suspension, torus_grid, torus_of_seven, Surface};
 
@@ -47,6 +47,19 @@ pub fn cyclic(n: u32) -> Table {
 /// sizes at least 3, and six rows to a cube. Each link is a sphere, but the
 /// whole is a torus.
 pub fn torus_of_cubes(sizes: [u32; 3]) -> Table {
+    let [p, q, r] = sizes;
+    let id = |at: [u32; 3]| ((at[0] % p) * q + at[1] % q) * r + at[2] % r;
+    let mut rows = Vec::new();
+    for cube in 0..p * q * r {
+        let origin = [cube / r / q, cube / r % q, cube % r];
+        rows.extend(six_in_cube(origin).map(|row| row.map(id)));
+    }
+    Table::sorted(p * q * r, rows)
+}
+
+/// The six tetrahedra of a cube, each along a way from its lowest corner to its
+/// highest: one step in each of the three directions.
+pub fn six_in_cube(lowest: [u32; 3]) -> [[[u32; 3]; 4]; 6] {
     const ORDERS: [[usize; 3]; 6] = [
         [0, 1, 2],
         [0, 2, 1],
@@ -55,22 +68,14 @@ pub fn torus_of_cubes(sizes: [u32; 3]) -> Table {
         [2, 0, 1],
         [2, 1, 0],
     ];
-    let [p, q, r] = sizes;
-    let id = |at: [u32; 3]| ((at[0] % p) * q + at[1] % q) * r + at[2] % r;
-    let mut rows = Vec::new();
-    for cube in 0..p * q * r {
-        let origin = [cube / r / q, cube / r % q, cube % r];
-        for order in ORDERS {
-            let mut at = origin;
-            let mut row = [id(at); 4];
-            for (step, direction) in order.into_iter().enumerate() {
-                at[direction] += 1;
-                row[step + 1] = id(at);
-            }
-            rows.push(row);
+    ORDERS.map(|order| {
+        let mut way = [lowest; 4];
+        for (step, direction) in order.into_iter().enumerate() {
+            way[step + 1] = way[step];
+            way[step + 1][direction] += 1;
         }
-    }
-    Table::sorted(p * q * r, rows)
+        way
+    })
 }
 
 /// The same table with the ids in another order, so that any may be id 0.

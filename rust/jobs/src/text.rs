@@ -8,12 +8,14 @@
 //! | `mark r value` | this row has this mark, any byte |
 //! | `add r`, `remove r` | the next proposal |
 //! | `propose r kind` | the next proposal, of any kind |
+//! | `point id x y z` | the job has points, and this one is that of the id |
 //! | `word i value` | header word i is this, whatever the layout makes it |
 //! | `length n` | cut to n bytes, or extended with zero bytes |
 //!
-//! `#` begins a comment. Where two lines set the same thing, the last decides.
+//! `#` begins a comment. Where two lines set the same thing, the last decides. In
+//! a job with points those without a line are 0 0 0.
 
-use crate::Job;
+use crate::{Job, Point};
 use common::{HEADER_WORDS, WORD_BYTES};
 use std::fmt::Write;
 
@@ -24,8 +26,10 @@ pub fn to_bytes(text: &str) -> Result<Vec<u8>, String> {
         rows: Vec::new(),
         marks: Vec::new(),
         proposals: Vec::new(),
+        points: None,
     };
     let mut marks = Vec::new();
+    let mut points = Vec::new();
     let mut words = Vec::new();
     let mut length = None;
     for (at, line) in text.lines().enumerate() {
@@ -36,6 +40,11 @@ pub fn to_bytes(text: &str) -> Result<Vec<u8>, String> {
             continue;
         };
         let not_an_item = || format!("line {line_number}: not an item: {}", line.trim());
+        if name == "point" {
+            let (id, point) = id_and_point(items).ok_or_else(not_an_item)?;
+            points.push((line_number, id, point));
+            continue;
+        }
         let numbers: Result<Vec<u32>, _> = items.map(str::parse).collect();
         let numbers = numbers.map_err(|_| not_an_item())?;
         match (name, numbers.as_slice()) {
@@ -62,6 +71,13 @@ pub fn to_bytes(text: &str) -> Result<Vec<u8>, String> {
         let mark = job.marks.get_mut(row as usize);
         *mark.ok_or_else(|| format!("line {line_number}: there is no row {row}"))? = value;
     }
+    if !points.is_empty() {
+        job.points = Some(vec![[0; 3]; job.ids as usize]);
+    }
+    for (line_number, id, value) in points {
+        let point = job.points.iter_mut().flatten().nth(id);
+        *point.ok_or_else(|| format!("line {line_number}: there is no id {id}"))? = value;
+    }
     let mut bytes = job.bytes();
     for (at, value) in words {
         bytes[at..at + WORD_BYTES].copy_from_slice(&value.to_le_bytes());
@@ -70,6 +86,12 @@ pub fn to_bytes(text: &str) -> Result<Vec<u8>, String> {
         bytes.resize(length, 0);
     }
     Ok(bytes)
+}
+
+fn id_and_point<'a>(mut items: impl Iterator<Item = &'a str>) -> Option<(usize, Point)> {
+    let id = items.next()?.parse().ok()?;
+    let coordinates: Result<Vec<i16>, _> = items.map(str::parse).collect();
+    Some((id, coordinates.ok()?.try_into().ok()?))
 }
 
 /// A text that makes these bytes; nothing unless the header words and the
@@ -104,6 +126,9 @@ pub fn from_job(job: &Job) -> String {
             _ => writeln!(text, "propose {row} {kind}"),
         };
     }
+    for (id, [x, y, z]) in job.points.iter().flatten().enumerate() {
+        let _ = writeln!(text, "point {id} {x} {y} {z}");
+    }
     text
 }
 
@@ -124,6 +149,9 @@ mod tests {
             add 1
             remove 2
             propose 4294967295 0
+            point 4 1 -2 +3
+            point 1 -32768 0 32767
+            point 4 0 1023 -1023
         ";
         let bytes = to_bytes(text).unwrap();
         let job = Job {
@@ -131,10 +159,24 @@ mod tests {
             rows: vec![[0, 1, 2, 3], [0, 1, 2, 4], [u32::MAX, 7, 7, 0]],
             marks: vec![1, 255, 1],
             proposals: vec![[1, 1], [2, 2], [u32::MAX, 0]],
+            points: Some(vec![
+                [0; 3],
+                [-32768, 0, 32767],
+                [0; 3],
+                [0; 3],
+                [0, 1023, -1023],
+                [0; 3],
+            ]),
         };
         assert_eq!(bytes, job.bytes());
         assert_eq!(Job::from_bytes(&bytes).unwrap(), job);
         assert_eq!(to_bytes(&from_job(&job)).unwrap(), bytes);
+        let without_points = Job {
+            points: None,
+            ..job.clone()
+        };
+        assert_eq!(bytes.len(), without_points.bytes().len() + 6 * 6);
+        assert!(!from_job(&without_points).contains("point"));
     }
 
     #[test]
@@ -161,6 +203,11 @@ mod tests {
             "ids 5\nmark 0 256",
             "ids 5\ninside 0",
             "ids 5\nrows 3",
+            "ids 5\npoint 1 2 3",
+            "ids 5\npoint 1 2 3 4 5",
+            "ids 5\npoint -1 2 3 4",
+            "ids 5\npoint 1 2 3 32768",
+            "ids 5\npoint 5 2 3 4",
         ] {
             let message = to_bytes(text).unwrap_err();
             assert!(message.starts_with("line 2: "), "{message}");

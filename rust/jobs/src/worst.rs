@@ -118,6 +118,7 @@ impl Parts {
             rows,
             marks,
             proposals: Vec::new(),
+            points: None,
         }
     }
 }

@@ -8,9 +8,10 @@ use std::path::{Path, PathBuf};
 
 const FOLDER: &str = concat!(env!("CARGO_MANIFEST_DIR"), "/../../jobs");
 
-const NAMES: [&str; 21] = [
-    "a", "adds", "b", "c", "cut", "d", "e", "f", "g", "gap", "h", "i", "inward", "j", "largest",
-    "n2049", "n4", "removes", "short31", "sky", "v6",
+const NAMES: [&str; 27] = [
+    "a", "adds", "b", "beside", "c", "cut", "d", "e", "f", "far", "flat", "folded", "g", "gap",
+    "h", "i", "inward", "j", "largest", "n2049", "n4", "points", "removes", "road", "short31",
+    "sky", "v6",
 ];
 
 fn path(name: &str, ending: &str) -> PathBuf {
@@ -72,11 +73,15 @@ fn listings_begin_as_the_documents_say() {
     for (name, first) in [
         ("a", "done 7 3 4"),
         ("b", "done 7 5 8"),
+        ("beside", "done 0 0 4"),
         ("c", "refused 12 1"),
         ("cut", "refused 3 0"),
         ("d", "refused 10 3"),
         ("e", "refused 11 1"),
         ("f", "done 0 0 0"),
+        ("far", "refused 13 3"),
+        ("flat", "refused 14 9"),
+        ("folded", "refused 15 5"),
         ("g", "refused 5 4"),
         ("h", "refused 6 4"),
         ("i", "refused 8 0"),
@@ -84,6 +89,8 @@ fn listings_begin_as_the_documents_say() {
         ("j", "refused 9 0"),
         ("n2049", "refused 2 0"),
         ("n4", "refused 2 0"),
+        ("points", "done 7 3 4"),
+        ("road", "done 18 12 18"),
         ("short31", "refused 1 0"),
         ("sky", "done 0 0 4"),
         ("v6", "done 7 3 4"),
@@ -91,6 +98,7 @@ fn listings_begin_as_the_documents_say() {
         assert_eq!(read_text(name, "out").lines().next(), Some(first), "{name}");
     }
     assert_eq!(read("a", "out"), read("v6", "out"));
+    assert_eq!(read("a", "out"), read("points", "out"));
 }
 
 #[test]

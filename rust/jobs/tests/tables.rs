@@ -1,18 +1,52 @@
-//! Every generated table is closed.
+//! Every generated table is closed, and placed ones have points that keep the
+//! rules for them.
 
 use common::{Buffers, MOST_ROWS};
-use jobs::{tables, Random, Table};
+use jobs::{growth, placed, tables, Job, Random, Table};
 
 fn assert_closed(name: &str, table: &Table) {
-    let job = table.job();
-    let outcome = plain::run(&job.bytes(), Buffers::zeros(job.rooms()).lend());
+    assert_accepted(name, &table.job());
+}
+
+fn assert_accepted(name: &str, job: &Job) {
+    let outcome = plain::run(&job.bytes(), false, Buffers::zeros(job.rooms()).lend());
     assert_eq!(
         (outcome.code, outcome.place),
         (0, 0),
         "{name}: {} ids, {} rows",
-        table.ids,
-        table.rows.len()
+        job.ids,
+        job.rows.len()
     );
+}
+
+#[test]
+fn placed_ones_of_any_family() {
+    let random = &mut Random::new(6);
+    for number in 0..1000 {
+        let most = 5 + number / 4;
+        let (name, placed) = placed::any(most, random);
+        assert!(placed.table.rows.len() <= most, "{name}");
+        assert_accepted(name, &placed.job());
+    }
+}
+
+/// A hull of triangles about every block, and the largest has as many rows as a
+/// job may have.
+#[test]
+fn placed_ones_near_a_number_of_rows() {
+    let random = &mut Random::new(7);
+    for most in [200, 501, 1000, MOST_ROWS] {
+        for (name, placed) in placed::each_family(most, random) {
+            let rows = placed.table.rows.len();
+            let fewest = if name == "splits" { 5 } else { most * 3 / 4 };
+            assert!((fewest..=most).contains(&rows), "{name}: {rows}");
+            assert!(name != "block of cubes" || most < MOST_ROWS || rows == MOST_ROWS);
+            let mut job = placed.job();
+            assert_accepted(name, &job);
+            job.marks = growth::even_marks(&placed.table, 1, 0);
+            assert_accepted(name, &job);
+        }
+    }
 }
 
 #[test]

@@ -8,11 +8,7 @@ pub(crate) fn read_counts(job: &[u8]) -> Result<Counts, u32> {
         return Err(1);
     }
     let header: [u32; HEADER_WORDS] = std::array::from_fn(|i| word(&job[WORD_BYTES * i..]));
-    let counts = Counts {
-        ids: header[0] as usize,
-        rows: header[1] as usize,
-        proposals: header[2] as usize,
-    };
+    let counts = Counts::told_by(&header);
     if !counts.within_limits() {
         Err(2)
     } else if header != counts.header() || job.len() != counts.length() {

@@ -138,7 +138,14 @@ impl Ring {
 }
 
 /// Writes the skin to the front of `triangles` and returns how many there are.
-pub(crate) fn list(table: &Table, marks: &[u8], triangles: &mut [u32]) -> u32 {
+/// The ids of a triangle rise, but for those of which `exchanged` says, by
+/// inside row and left-out corner, that their last two change places.
+pub(crate) fn list(
+    table: &Table,
+    marks: &[u8],
+    exchanged: impl Fn(usize, usize) -> bool,
+    triangles: &mut [u32],
+) -> u32 {
     let mut listed = 0;
     for (r, row) in table.rows.iter().enumerate() {
         if marks[r] != INSIDE {
@@ -146,7 +153,10 @@ pub(crate) fn list(table: &Table, marks: &[u8], triangles: &mut [u32]) -> u32 {
         }
         for (corner, triangle) in TRIANGLES.iter().enumerate() {
             if marks[table.neighbours[r][corner] as usize] != INSIDE {
-                let ids = triangle.map(|t| u32::from(row[t]));
+                let mut ids = triangle.map(|t| u32::from(row[t]));
+                if exchanged(r, corner) {
+                    ids.swap(1, 2);
+                }
                 triangles[3 * listed..3 * listed + 3].copy_from_slice(&ids);
                 listed += 1;
             }

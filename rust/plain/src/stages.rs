@@ -10,6 +10,7 @@ pub struct Stages {
     pub edges: Duration,
     pub vertices: Duration,
     pub clean: Duration,
+    pub points: Duration,
     pub proposals: Duration,
     pub list: Duration,
 }
@@ -20,6 +21,7 @@ pub(crate) enum Stage {
     Edges,
     Vertices,
     Clean,
+    Points,
     Proposals,
     List,
 }
@@ -60,6 +62,7 @@ impl Watch for Stopwatch<'_> {
             Stage::Edges => self.stages.edges = took,
             Stage::Vertices => self.stages.vertices = took,
             Stage::Clean => self.stages.clean = took,
+            Stage::Points => self.stages.points = took,
             Stage::Proposals => self.stages.proposals = took,
             Stage::List => self.stages.list = took,
         }

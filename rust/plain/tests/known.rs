@@ -1,8 +1,8 @@
-//! The jobs of document 01 with their whole results. Every buffer is lent one
-//! longer than needed and filled with 9s.
+//! The jobs of document 01 with their whole results, and jobs with points. Every
+//! buffer is lent one longer than needed and filled with 9s.
 
 use common::{Buffers, Outcome, Rooms};
-use jobs::Job;
+use jobs::{Job, Point};
 
 fn job_a() -> Job {
     Job {
@@ -16,6 +16,7 @@ fn job_a() -> Job {
         ],
         marks: vec![0; 5],
         proposals: vec![[4, 1], [4, 1], [0, 1], [4, 2], [4, 3], [5, 1], [4, 1]],
+        points: None,
     }
 }
 
@@ -33,6 +34,7 @@ fn job_b() -> Job {
         rows,
         marks: vec![0; 12],
         proposals: vec![[8, 1], [11, 1], [10, 1], [11, 1], [9, 1], [8, 2], [11, 2]],
+        points: None,
     }
 }
 
@@ -47,7 +49,62 @@ fn twice_a(ids: u32, second: [u32; 5]) -> Job {
         rows,
         marks: vec![0; 10],
         proposals: vec![],
+        points: None,
     }
+}
+
+/// The job with points: 0 0 0 for id 0, and these for the others.
+fn placed(job: Job, points: &[Point]) -> Job {
+    Job {
+        points: Some([&[[0; 3]], points].concat()),
+        ..job
+    }
+}
+
+/// The job with another point for one id.
+fn moved(mut job: Job, id: usize, point: Point) -> Job {
+    job.points.as_mut().expect("a job with points")[id] = point;
+    job
+}
+
+/// About the middle. Of 1 2 3 and of 1 3 4 the fourth point lies behind.
+const TETRAHEDRON: [Point; 4] = [[16, 16, 16], [16, -16, -16], [-16, 16, -16], [-16, -16, 16]];
+
+/// The edge 1 2, and 3 to 6 round it.
+const OCTAHEDRON: [Point; 6] = [
+    [0, 0, 16],
+    [0, 0, -16],
+    [16, 0, 0],
+    [0, 16, 0],
+    [-16, 0, 0],
+    [0, -16, 0],
+];
+
+/// The tetrahedron with id 5 in its middle and id 6 in its row 2 3 4 5.
+fn split_twice() -> Job {
+    let job = Job {
+        ids: 7,
+        rows: vec![
+            [0, 1, 2, 3],
+            [0, 1, 2, 4],
+            [0, 1, 3, 4],
+            [0, 2, 3, 4],
+            [1, 2, 3, 5],
+            [1, 2, 4, 5],
+            [1, 3, 4, 5],
+            [2, 3, 4, 6],
+            [2, 3, 5, 6],
+            [2, 4, 5, 6],
+            [3, 4, 5, 6],
+        ],
+        marks: vec![0; 11],
+        proposals: vec![],
+        points: None,
+    };
+    placed(
+        job,
+        &[&TETRAHEDRON[..], &[[0, 0, 0], [-3, -3, -3]]].concat(),
+    )
 }
 
 /// The job with these rows inside.
@@ -76,24 +133,41 @@ fn nines(job: &Job) -> Buffers {
 
 /// Runs a job that is refused by its header or for want of room.
 fn refused_early(bytes: &[u8], buffers: &Buffers, code: u32) {
-    let mut left = buffers.clone();
-    let outcome = plain::run(bytes, left.lend());
-    assert_eq!(outcome, Outcome::refused(code, 0));
-    assert_eq!(left, *buffers);
+    for outward in [false, true] {
+        let mut left = buffers.clone();
+        let outcome = plain::run(bytes, outward, left.lend());
+        assert_eq!(outcome, Outcome::refused(code, 0));
+        assert_eq!(left, *buffers);
+    }
 }
 
-/// Runs a job that is refused by its table or its marks.
+/// Runs a job that is refused by its table, its marks or its points.
 fn refused_late(job: &Job, code: u32, place: u32) {
-    let mut left = nines(job);
-    let mut expected = left.clone();
-    expected.work[..job.rooms().work].fill(0);
-    let outcome = plain::run(&job.bytes(), left.lend());
-    assert_eq!(outcome, Outcome::refused(code, place));
-    assert_eq!(left, expected);
+    for outward in [false, true] {
+        let mut left = nines(job);
+        let mut expected = left.clone();
+        expected.work[..job.rooms().work].fill(0);
+        let outcome = plain::run(&job.bytes(), outward, left.lend());
+        assert_eq!(outcome, Outcome::refused(code, place));
+        assert_eq!(left, expected);
+    }
 }
 
-/// Runs a job that is not refused.
+/// Runs a job that is not refused, and lists the same whatever is asked for.
 fn done(job: &Job, answers: &[u8], marks: &[u8], skin: &[[u32; 3]], neighbours: &[u32]) {
+    for outward in [false, true] {
+        done_listing(outward, job, answers, marks, skin, neighbours);
+    }
+}
+
+fn done_listing(
+    outward: bool,
+    job: &Job,
+    answers: &[u8],
+    marks: &[u8],
+    skin: &[[u32; 3]],
+    neighbours: &[u32],
+) {
     let mut left = nines(job);
     let mut expected = left.clone();
     expected.answers[..answers.len()].copy_from_slice(answers);
@@ -101,7 +175,7 @@ fn done(job: &Job, answers: &[u8], marks: &[u8], skin: &[[u32; 3]], neighbours: 
     expected.triangles[..3 * skin.len()].copy_from_slice(skin.as_flattened());
     expected.work[..neighbours.len()].copy_from_slice(neighbours);
     let taken = answers.iter().filter(|&&answer| answer == 0).count();
-    let outcome = plain::run(&job.bytes(), left.lend());
+    let outcome = plain::run(&job.bytes(), outward, left.lend());
     assert_eq!(outcome, Outcome::done(taken as u32, skin.len() as u32));
     assert_eq!(left, expected);
 }
@@ -235,7 +309,7 @@ fn room_short_by_one() {
         triangles: vec![9; 30],
         work: vec![9; 20],
     };
-    assert_eq!(plain::run(&bytes, exact.clone().lend()).code, 0);
+    assert_eq!(plain::run(&bytes, false, exact.clone().lend()).code, 0);
     let mut short = exact.clone();
     short.answers.pop();
     refused_early(&bytes, &short, 4);
@@ -300,13 +374,159 @@ fn no_outer_row() {
     done(&job, &[], &[1, 0, 0, 0, 0], &skin, &NEIGHBOURS_A);
 }
 
+/// Job A with points, in both orders.
+#[test]
+fn a_with_points() {
+    let job = placed(job_a(), &TETRAHEDRON);
+    assert_eq!(job.bytes().len(), 173 + 6 * 5);
+    let rising = [[2, 3, 4], [1, 3, 4], [1, 2, 4], [1, 2, 3]];
+    let outward = [[2, 4, 3], [1, 3, 4], [1, 4, 2], [1, 2, 3]];
+    for (asked, skin) in [(false, rising), (true, outward)] {
+        done_listing(
+            asked,
+            &job,
+            &[0, 4, 3, 0, 2, 1, 0],
+            &[0, 0, 0, 0, 1],
+            &skin,
+            &NEIGHBOURS_A,
+        );
+    }
+}
+
+/// With two points exchanged each triangle turns.
+#[test]
+fn mirrored_a_with_points() {
+    let [a, b, c, d] = TETRAHEDRON;
+    let mut job = inside(placed(job_a(), &[b, a, c, d]), &[4]);
+    job.proposals.clear();
+    let outward = [[2, 3, 4], [1, 4, 3], [1, 2, 4], [1, 3, 2]];
+    done_listing(true, &job, &[], &[0, 0, 0, 0, 1], &outward, &NEIGHBOURS_A);
+}
+
+/// The inside rows are outer, and the corner of row 4 lies in front.
+#[test]
+fn sky_inside_with_points() {
+    let mut job = inside(placed(job_a(), &TETRAHEDRON), &[0, 1, 2, 3]);
+    job.proposals.clear();
+    let rising = [[1, 2, 3], [1, 2, 4], [1, 3, 4], [2, 3, 4]];
+    let outward = [[1, 3, 2], [1, 2, 4], [1, 4, 3], [2, 3, 4]];
+    for (asked, skin) in [(false, rising), (true, outward)] {
+        done_listing(asked, &job, &[], &[1, 1, 1, 1, 0], &skin, &NEIGHBOURS_A);
+    }
+}
+
+#[test]
+fn points_on_the_border_of_the_grid() {
+    let corners = [
+        [1023; 3],
+        [1023, -1023, -1023],
+        [-1023, 1023, -1023],
+        [-1023, -1023, 1023],
+    ];
+    let mut job = inside(placed(job_a(), &corners), &[4]);
+    job.proposals.clear();
+    let outward = [[2, 4, 3], [1, 3, 4], [1, 4, 2], [1, 2, 3]];
+    done_listing(true, &job, &[], &[0, 0, 0, 0, 1], &outward, &NEIGHBOURS_A);
+}
+
+#[test]
+fn points_out_of_range() {
+    let job = placed(job_a(), &TETRAHEDRON);
+    for far in [1024, -1024, i16::MAX, i16::MIN] {
+        for at in 0..3 {
+            let mut point = TETRAHEDRON[2];
+            point[at] = far;
+            refused_late(&moved(job.clone(), 3, point), 13, 3);
+            let two = moved(moved(job.clone(), 4, [far; 3]), 2, point);
+            refused_late(&two, 13, 2);
+        }
+    }
+    for at in 0..3 {
+        let mut point = [0; 3];
+        point[at] = 1;
+        refused_late(&moved(job.clone(), 0, point), 13, 0);
+    }
+    // No row holds id 5.
+    let unused = Job { ids: 6, ..job };
+    let six = |last: Point| placed(unused.clone(), &[&TETRAHEDRON[..], &[last]].concat());
+    refused_late(&six([0, 1024, 0]), 13, 5);
+    let mut left = nines(&unused);
+    assert_eq!(
+        plain::run(&six([0, 1023, 0]).bytes(), true, left.lend()).code,
+        0
+    );
+}
+
+#[test]
+fn flat_row() {
+    let job = split_twice();
+    let mut left = nines(&job);
+    assert_eq!(plain::run(&job.bytes(), true, left.lend()).code, 0);
+    // Into the plane of 3 4 5, which is y + z = 0.
+    refused_late(&moved(job.clone(), 6, [-8, 2, -2]), 14, 10);
+    // Onto the edge 4 5: rows 9 and 10 are flat.
+    refused_late(&moved(job.clone(), 6, [-4, -4, 4]), 14, 9);
+    refused_late(&placed(job_a(), &[[0; 3]; 4]), 14, 4);
+}
+
+#[test]
+fn folded_neighbours() {
+    // Through 3 4 5, into row 6.
+    refused_late(&moved(split_twice(), 6, [-8, 4, -2]), 15, 6);
+    // Id 5 out of the tetrahedron, through 1 2 4; row 5 turns over.
+    refused_late(&moved(split_twice(), 5, [9, -9, 9]), 15, 4);
+}
+
+/// Damage of codes 12 to 15 in one job, taken back from the first on.
+#[test]
+fn earlier_codes_decide_with_points() {
+    let mut job = inside(placed(job_b(), &OCTAHEDRON), &[8, 11]);
+    refused_late(&job, 12, 1);
+    // Row 9 is flat, and 4 lies below 1 3 6 and 1 5 6.
+    job = moved(job, 6, [24, 0, 0]);
+    job = moved(job, 4, [0, -16, 0]);
+    job = moved(job, 5, [-16, 1024, 0]);
+    refused_late(&job, 12, 1);
+    job.marks.fill(0);
+    refused_late(&job, 13, 5);
+    job = moved(job, 5, OCTAHEDRON[4]);
+    refused_late(&job, 14, 9);
+    job = moved(job, 6, OCTAHEDRON[5]);
+    refused_late(&job, 15, 8);
+    job = moved(job, 4, OCTAHEDRON[3]);
+    let mut left = nines(&job);
+    assert_eq!(plain::run(&job.bytes(), true, left.lend()).code, 0);
+}
+
+/// Word 7 and the length must fit one another.
+#[test]
+fn layout_with_points() {
+    let with = placed(job_a(), &TETRAHEDRON);
+    let buffers = nines(&with);
+    let mut bytes = with.bytes();
+    refused_early(&bytes[..bytes.len() - 1], &buffers, 3);
+    bytes.push(0);
+    refused_early(&bytes, &buffers, 3);
+    bytes.pop();
+    for word in [0, 2, 3, 16, 17, 1 << 8 | 1, 1 << 24] {
+        let mut other = bytes.clone();
+        other[28..32].copy_from_slice(&u32::to_le_bytes(word));
+        refused_early(&other, &buffers, 3);
+    }
+    let mut without = job_a().bytes();
+    for word in [1, 2] {
+        without[28] = word;
+        refused_early(&without, &buffers, 3);
+    }
+}
+
 #[test]
 fn timed_run_gives_the_same() {
     let job = job_b();
     let (mut timed, mut untimed) = (nines(&job), nines(&job));
     let mut stages = plain::Stages::default();
-    let outcome = plain::run_timed(&job.bytes(), timed.lend(), &mut stages);
-    assert_eq!(outcome, plain::run(&job.bytes(), untimed.lend()));
+    let outcome = plain::run_timed(&job.bytes(), false, timed.lend(), &mut stages);
+    assert_eq!(outcome, plain::run(&job.bytes(), false, untimed.lend()));
     assert_eq!(timed, untimed);
     assert!(!stages.neighbours.is_zero());
 }

@@ -2,19 +2,22 @@
 //! as it is built, word for word. Nothing in it is there to be quick, and beyond
 //! the numbers and types of `common` it shares no code with the other engines.
 
+mod points;
+
 use common::{
-    Lent, Outcome, Rooms, EDGES, HEADER_BYTES, IDS, MARK_BYTES, PROPOSALS, PROPOSAL_BYTES, ROWS,
-    ROW_BYTES, TRIANGLES,
+    Lent, Outcome, Rooms, EDGES, HEADER_BYTES, IDS, MARK_BYTES, POINT_BYTES, PROPOSALS,
+    PROPOSAL_BYTES, ROWS, ROW_BYTES, TRIANGLES,
 };
+use points::Points;
 
 pub type Row = [u32; 4];
 
-/// Runs a job.
-pub fn run(job: &[u8], lent: Lent) -> Outcome {
+/// Runs a job; `outward` asks for outward triangles.
+pub fn run(job: &[u8], outward: bool, lent: Lent) -> Outcome {
     if let Some(code) = refused_by_header(job) {
         return Outcome::refused(code, 0);
     }
-    let [v, n, p] = [0, 4, 8].map(|at| number(job, at) as usize);
+    let [v, n, p, word_7] = [0, 4, 8, 28].map(|at| number(job, at) as usize);
     let Some(lent) = lent.front(Rooms::exact(n, p)) else {
         return Outcome::refused(4, 0);
     };
@@ -24,7 +27,7 @@ pub fn run(job: &[u8], lent: Lent) -> Outcome {
         triangles,
         work,
     } = lent;
-    let [marks_at, proposals_at, _] = places(n, p);
+    let [marks_at, proposals_at, points_at] = places(n, p);
     let rows: Vec<Row> = (0..n)
         .map(|r| [0, 4, 8, 12].map(|corner| number(job, HEADER_BYTES + ROW_BYTES * r + corner)))
         .collect();
@@ -34,7 +37,10 @@ pub fn run(job: &[u8], lent: Lent) -> Outcome {
         [number(job, at), number(job, at + 4)]
     });
 
-    if let Some((code, place)) = refused_by_table(v, &rows, marks) {
+    let points = (word_7 == 1).then(|| Points::read(&job[points_at..]));
+
+    let refused = refused_by_table(v, &rows, marks).or_else(|| points.as_ref()?.refused(&rows));
+    if let Some((code, place)) = refused {
         work.fill(0);
         return Outcome::refused(code, place as u32);
     }
@@ -55,8 +61,12 @@ pub fn run(job: &[u8], lent: Lent) -> Outcome {
         }
     }
     let skin = skin(&rows, final_marks);
-    for (i, ids) in skin.iter().enumerate() {
-        triangles[3 * i..3 * i + 3].copy_from_slice(ids);
+    for (i, &ids) in skin.iter().enumerate() {
+        let listed = match &points {
+            Some(points) if outward => points.outward(&rows, final_marks, ids),
+            _ => ids,
+        };
+        triangles[3 * i..3 * i + 3].copy_from_slice(&listed);
     }
     Outcome::done(taken, skin.len() as u32)
 }
@@ -66,7 +76,7 @@ fn number(job: &[u8], at: usize) -> u32 {
     (0..4).map(|i| u32::from(job[at + i]) << (8 * i)).sum()
 }
 
-/// Where marks and proposals begin, and the whole length.
+/// Where marks and proposals begin, and where the proposals end.
 fn places(n: usize, p: usize) -> [usize; 3] {
     let marks = HEADER_BYTES + ROW_BYTES * n;
     let proposals = marks + MARK_BYTES * n;
@@ -83,17 +93,21 @@ fn refused_by_header(job: &[u8]) -> Option<u32> {
     if !IDS.contains(&v) || !ROWS.contains(&n) || !PROPOSALS.contains(&p) {
         return Some(2);
     }
-    let [marks, proposals, length] = places(n, p);
+    let [marks, proposals, end] = places(n, p);
+    let length = match word(7) {
+        0 => end,
+        1 => end + POINT_BYTES * v,
+        _ => return Some(3),
+    };
     let laid_out = word(3) == HEADER_BYTES
         && word(4) == marks
         && word(5) == proposals
         && word(6) == length
-        && word(7) == 0
         && job.len() == length;
     (!laid_out).then_some(3)
 }
 
-/// Codes 5 to 12 with their places.
+/// Codes 5 to 12 with their places; those of points come after them.
 fn refused_by_table(v: usize, rows: &[Row], marks: &[u8]) -> Option<(u32, usize)> {
     let first = |code: u32, fault: &dyn Fn(usize) -> bool| {
         let place = (0..rows.len()).find(|&r| fault(r))?;

@@ -3,14 +3,14 @@
 //! AGREE_SEED the number of the first.
 
 use common::{Buffers, Outcome, Rooms};
-use jobs::{cases, growth, tables, Job, Random};
+use jobs::{cases, growth, outward, placed, tables, Job, Random};
 
 /// Runs both on the same buffers, requires the same results, and returns them.
-fn agree(kind: &str, job: &[u8], buffers: Buffers) -> (Outcome, Buffers) {
+fn agree(kind: &str, job: &[u8], outward: bool, buffers: Buffers) -> (Outcome, Buffers) {
     let mut by_plain = buffers.clone();
     let mut by_slow = buffers;
-    let plain = plain::run(job, by_plain.lend());
-    let slow = slow::run(job, by_slow.lend());
+    let plain = plain::run(job, outward, by_plain.lend());
+    let slow = slow::run(job, outward, by_slow.lend());
     assert_eq!(plain, slow, "{kind}");
     assert!(by_plain == by_slow, "{kind}: buffers");
     (slow, by_slow)
@@ -25,8 +25,9 @@ fn setting(name: &str, usual: u64) -> u64 {
 
 #[test]
 fn random_jobs() {
-    let mut codes = [0; 13];
+    let mut codes = [0; 16];
     let mut answers = [0; 8];
+    let mut orders = Orders::default();
     let count = setting("AGREE_JOBS", 6000);
     let first = setting("AGREE_SEED", 1);
     for number in (first..).take(count as usize) {
@@ -34,22 +35,55 @@ fn random_jobs() {
         let case = cases::case(number, most);
         let buffers = Random::new(!number).buffers(case.rooms);
         let kind = format!("case {number} of {most}: {}", case.kind);
-        let (outcome, buffers) = agree(&kind, &case.job, buffers);
+        let (outcome, rising) = agree(&kind, &case.job, false, buffers.clone());
+        let (also, outward) = agree(&kind, &case.job, true, buffers);
+        assert_eq!(outcome, also, "{kind}");
         codes[outcome.code as usize] += 1;
         if outcome.code == 0 {
-            let p = Job::from_bytes(&case.job)
-                .expect("a layout")
-                .proposals
-                .len();
-            for &answer in &buffers.answers[..p] {
+            let job = Job::from_bytes(&case.job).expect("a layout");
+            for &answer in &rising.answers[..job.proposals.len()] {
                 answers[answer as usize] += 1;
             }
+            orders.add(&kind, &job, &rising, &outward, outcome.triangles as usize);
+        } else {
+            assert_eq!(rising, outward, "{kind}");
         }
     }
-    println!("codes {codes:?}\nanswers {answers:?}");
+    println!("codes {codes:?}\nanswers {answers:?}\n{orders:?}");
     if count >= 6000 {
         assert!(codes.iter().all(|&given| given >= 20), "{codes:?}");
         assert!(answers.iter().all(|&given| given >= 500), "{answers:?}");
+        let often = [orders.differ[0], orders.differ[1], orders.same];
+        assert!(often.iter().all(|&jobs| jobs >= 200), "{orders:?}");
+    }
+}
+
+/// How many accepted jobs are listed otherwise when outward is asked for, with
+/// the sky outside and with it inside, and how many are not.
+#[derive(Debug, Default)]
+struct Orders {
+    differ: [usize; 2],
+    same: usize,
+}
+
+impl Orders {
+    fn add(&mut self, kind: &str, job: &Job, rising: &Buffers, outward: &Buffers, count: usize) {
+        let [by_ids, by_sides] = [rising, outward].map(|left| {
+            let (triangles, behind) = left.triangles.split_at(3 * count);
+            (triangles.as_chunks::<3>().0, behind)
+        });
+        assert_eq!(by_ids.1, by_sides.1, "{kind}");
+        assert_eq!(rising.answers, outward.answers, "{kind}");
+        assert_eq!(rising.final_marks, outward.final_marks, "{kind}");
+        assert_eq!(rising.work, outward.work, "{kind}");
+        let fault = outward::fault(job, &rising.final_marks, by_ids.0, by_sides.0);
+        assert_eq!(fault, None, "{kind}");
+        if by_ids.0 == by_sides.0 {
+            self.same += 1;
+        } else {
+            assert!(job.points.is_some(), "{kind}");
+            self.differ[usize::from(job.sky() == Some(1))] += 1;
+        }
     }
 }
 
@@ -60,7 +94,26 @@ fn every_start() {
         let mut job = table.job();
         for marks in growth::every_start(&table) {
             job.marks = marks;
-            agree("every start", &job.bytes(), Buffers::zeros(job.rooms()));
+            agree(
+                "every start",
+                &job.bytes(),
+                false,
+                Buffers::zeros(job.rooms()),
+            );
+        }
+    }
+}
+
+/// The same with points, outward.
+#[test]
+fn every_start_with_points() {
+    for most in [8, 11] {
+        let placed = placed::splits(most, &mut Random::new(6));
+        let mut job = placed.job();
+        for marks in growth::every_start(&placed.table) {
+            job.marks = marks;
+            let lent = Buffers::zeros(job.rooms());
+            agree("every start, outward", &job.bytes(), true, lent);
         }
     }
 }
@@ -79,7 +132,12 @@ fn every_marking() {
         let outer: Vec<usize> = (0..job.rows.len()).filter(outer).collect();
         for marks in growth::every_marking(&table) {
             job.marks = marks;
-            let (outcome, _) = agree("every marking", &job.bytes(), Buffers::zeros(job.rooms()));
+            let (outcome, _) = agree(
+                "every marking",
+                &job.bytes(),
+                false,
+                Buffers::zeros(job.rooms()),
+            );
             let differs = |r: &&usize| job.marks[**r] != job.marks[outer[0]];
             match outer.iter().find(differs) {
                 Some(&place) => {
@@ -93,10 +151,10 @@ fn every_marking() {
     assert!(unlike > 1_000, "{unlike}");
 }
 
-/// Each byte of jobs A, A with the sky inside, and B changed, and each length.
+/// Each byte of small stored jobs changed, and each length.
 #[test]
 fn every_byte_and_length() {
-    for name in ["a", "sky", "b"] {
+    for name in ["a", "sky", "b", "points", "flat", "folded"] {
         let folder = concat!(env!("CARGO_MANIFEST_DIR"), "/../../jobs");
         let bytes = std::fs::read(format!("{folder}/{name}.job")).expect("a stored job");
         let buffers = Random::new(6).buffers(Rooms::exact(13, 9));
@@ -104,14 +162,14 @@ fn every_byte_and_length() {
             for change in [1, 2, 3, 4, 8, 128, 255] {
                 let mut changed = bytes.clone();
                 changed[at] ^= change;
-                agree("a byte changed", &changed, buffers.clone());
+                agree("a byte changed", &changed, true, buffers.clone());
             }
-            agree("cut", &bytes[..at], buffers.clone());
+            agree("cut", &bytes[..at], true, buffers.clone());
         }
         let mut longer = bytes.clone();
         for _ in 0..20 {
             longer.push(0);
-            agree("extended", &longer, buffers.clone());
+            agree("extended", &longer, true, buffers.clone());
         }
     }
 }
@@ -131,7 +189,12 @@ fn five_cases_keep_the_skin_clean() {
         job.marks = growth::even_marks(&table, sky, random.pick(&[0, 1]));
         let adds = random.pick(&[20, 50, 80]);
         growth::propose(&mut job, 40, adds, random);
-        let (outcome, buffers) = agree("five cases", &job.bytes(), Buffers::zeros(job.rooms()));
+        let (outcome, buffers) = agree(
+            "five cases",
+            &job.bytes(),
+            false,
+            Buffers::zeros(job.rooms()),
+        );
         assert_eq!(outcome.code, 0);
         let mut marks = job.marks.clone();
         for (&[row, kind], &answer) in job.proposals.iter().zip(&buffers.answers) {

@@ -43,5 +43,6 @@ laid-out-spec =
     proposals-at-requires
     header-word-requires-4
     whole-length-requires
+    (λ c κs. tt)
     header-word-requires-5
     returns)

@@ -1,12 +1,23 @@
 -- Laws of a job: what is in it by its form and its header.
 use mathlib.Core.Path.{_≡_, refl, _∙_}
+use mathlib.Core.Bool.{Bool, true, false, cond}
 use mathlib.Core.List.{List}
-use Prim.Native.Nat.{ℕ}
+use Prim.Native.Nat.{ℕ, _*_, _≤_, zero-le}
+use native.Mathlib.Nat.{le-refl}
 use lib.ListN.{length}
 use Rattle.rules.specs.Table.{tableOf}
-use Rattle.rules.specs.Job.{Form, headerOf, rowsTable, jobOf, answersOf}
+use Rattle.rules.specs.Job.{Form, Header, headerOf, hasPoints, pointBytes, rowsTable, jobOf, answersOf}
 use Rattle.rules.specs.Laws.Lists.{tabulate-length}
 use Rattle.rules.specs.Laws.Proposals.{answers-length}
+
+-- six bytes for each id, or none
+pub points-few : (f : Form) (h : Header) → pointBytes f h ≤ 6 * h .ids
+unfolding pointBytes
+points-few f h = go (hasPoints f h)
+  where
+    go : (b : Bool) → cond b (6 * h .ids) 0 ≤ 6 * h .ids
+    go true = le-refl (6 * h .ids)
+    go false = zero-le
 
 module _ (f : Form) (bytes : List ℕ) where
   pub job-ids : jobOf f bytes .ids ≡ headerOf bytes .ids

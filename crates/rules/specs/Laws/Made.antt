@@ -1,6 +1,7 @@
 -- Job files made from their parts: what is read back from them is what was put in.
 use mathlib.Core.Path.{_≡_, refl, sym, _∙_}
-use mathlib.Core.List.{List, [], _∷_, _++_, List·Memᴰ·head, List·Memᴰ·tail}
+use mathlib.Core.Logic.{_⊎_, ⊎-elim}
+use mathlib.Core.List.{List, [], _∷_, _++_, append-assoc, List·Memᴰ·head, List·Memᴰ·tail}
 use Prim.Native.Nat.{ℕ, zero, suc, _+_, _-_, _*_, _^_, _≤_, _<_}
 use native.Mathlib.Nat.{not-suc-le-zero, le-of-suc-le-suc}
 use native.Mathlib.Omega.{arith}
@@ -11,11 +12,11 @@ use Rattle.rules.specs.Below.{found, tabulate}
 use Rattle.rules.specs.Words.{words}
 use Rattle.rules.specs.First.{given, firstMatch}
 use Rattle.rules.specs.Proposals.{Proposal}
-use Rattle.rules.specs.Job.{Form, track, Header, headerWord, headerOf, rowBytes, rowsAt, marksAt, proposalsAt, wholeLength, section, rowsTable, proposalIn, jobOf, layoutTests}
-use Rattle.rules.specs.Made.{headerWords, headerBytes, proposalBytes, withProposals, remadeJob, cutJob, cutTo, remade}
+use Rattle.rules.specs.Job.{Form, track, Header, headerWord, headerOf, rowBytes, rowsAt, marksAt, proposalsAt, pointsAt, hasPoints, pointBytes, wholeLength, section, rowsTable, proposalIn, pointsOf, jobOf, layoutTests}
+use Rattle.rules.specs.Made.{headerWords, headerBytes, proposalBytes, withProposals, remadeJob, cutJob, pointsSection, cutTo, remade}
 use Rattle.rules.specs.Laws.Lists.{Among, part-length, tabulate-is}
 use Rattle.rules.specs.Laws.Words.{word-after, words-at}
-use Rattle.rules.specs.Laws.Job.{job-proposals}
+use Rattle.rules.specs.Laws.Job.{points-few, job-proposals}
 use Rattle.rules.specs.Reading.Codes.{WithinLimits, limits-read, LaidOut, laid-out-reads}
 use Rattle.rules.specs.Reading.File.{proposal-part, proposal-stands}
 
@@ -24,7 +25,7 @@ use Rattle.rules.specs.Reading.File.{proposal-part, proposal-stands}
 -- a header within its limits, each of whose words fits four bytes
 record Fits (f : Form) (h : Header) : Type 0 where
   limits : WithinLimits f h
-  mode : h .mode ≡ f .mode
+  mode : (h .mode ≡ f .mode) ⊎ (h .mode ≡ f .mode + 1)
   mode-small : h .mode < 256 ^ 4
   small : wholeLength f h < 256 ^ 4
 
@@ -57,23 +58,32 @@ module _ (f : Form) (h : Header) (fits : Fits f h) where
       let laid : LaidOut f h bytes = (((((at 3 (omega arith), at 4 (omega arith)), at 5 (omega arith)), at 6 (omega arith)), fits .mode), at 6 (omega arith) ∙ sym long) in
       simp (made-header rest, le-ltb (length bytes) rowsAt (omega arith), limits-read f h .1 (fits .limits), laid-out-reads f h bytes .1 laid)
 
-  module _ (rows marks proposals : List ℕ) (rows-long : length rows ≡ rowBytes f * h .rows) (marks-long : length marks ≡ h .rows) (proposals-long : length proposals ≡ 8 * h .proposals) where
-    made-job : jobOf f (headerBytes f h ++ (rows ++ (marks ++ proposals)))
-        ≡ record { ids = h .ids; table = rowsTable f (h .rows) rows; marks = marks; proposals = tabulate (h .proposals) (proposalIn proposals) }
+  module _ (rows marks proposals points : List ℕ) (rows-long : length rows ≡ rowBytes f * h .rows) (marks-long : length marks ≡ h .rows) (proposals-long : length proposals ≡ 8 * h .proposals)
+      (points-long : length points ≡ pointBytes f h) where
+    made-job : jobOf f (headerBytes f h ++ (rows ++ (marks ++ (proposals ++ points)))) ≡ record {
+      ids = h .ids;
+      table = rowsTable f (h .rows) rows;
+      marks = marks;
+      proposals = tabulate (h .proposals) (proposalIn proposals);
+      points = pointsOf f h points;
+    }
     unfolding jobOf
     made-job =
-        let bytes = headerBytes f h ++ (rows ++ (marks ++ proposals)) in
-        let from-rows = drop-at (headerBytes f h) (rows ++ (marks ++ proposals)) rowsAt (header-long f h) in
-        let from-marks = drop-next bytes rows (marks ++ proposals) rowsAt (rowBytes f * h .rows) from-rows rows-long in
-        let from-proposals = drop-next bytes marks proposals (marksAt f h) (h .rows) from-marks marks-long in
+        let bytes = headerBytes f h ++ (rows ++ (marks ++ (proposals ++ points))) in
+        let from-rows = drop-at (headerBytes f h) (rows ++ (marks ++ (proposals ++ points))) rowsAt (header-long f h) in
+        let from-marks = drop-next bytes rows (marks ++ (proposals ++ points)) rowsAt (rowBytes f * h .rows) from-rows rows-long in
+        let from-proposals = drop-next bytes marks (proposals ++ points) (marksAt f h) (h .rows) from-marks marks-long in
+        let from-points = drop-next bytes proposals points (proposalsAt f h) (8 * h .proposals) from-proposals proposals-long in
         rw (
-          made-header (rows ++ (marks ++ proposals)),
+          made-header (rows ++ (marks ++ (proposals ++ points))),
           from-rows,
           from-marks,
           from-proposals,
-          take-at rows (marks ++ proposals) (rowBytes f * h .rows) rows-long,
-          take-at marks proposals (h .rows) marks-long,
-          take-all (8 * h .proposals) proposals (omega arith),
+          from-points,
+          take-at rows (marks ++ (proposals ++ points)) (rowBytes f * h .rows) rows-long,
+          take-at marks (proposals ++ points) (h .rows) marks-long,
+          take-at proposals points (8 * h .proposals) proposals-long,
+          take-all (pointBytes f h) points (omega arith),
         )
 
 -- ---- proposals written down
@@ -102,22 +112,39 @@ proposal-at (p ∷ ps) small (suc k) l =
 
 -- the rows, the marks and so many proposals of a file, one after the other
 first-parts : (f : Form) (bytes : List ℕ) (h : Header)
-    → section bytes rowsAt (wholeLength f h - rowsAt)
+    → section bytes rowsAt (pointsAt f h - rowsAt)
     ≡ section bytes rowsAt (rowBytes f * h .rows) ++ (section bytes (marksAt f h) (h .rows) ++ section bytes (proposalsAt f h) (8 * h .proposals))
 first-parts f bytes h =
-    let whole : wholeLength f h - rowsAt ≡ rowBytes f * h .rows + (h .rows + 8 * h .proposals) = omega arith in
+    let whole : pointsAt f h - rowsAt ≡ rowBytes f * h .rows + (h .rows + 8 * h .proposals) = omega arith in
     rw (whole, take-add, take-add, drop-drop, drop-drop)
 
-module _ (f : Form) (bytes : List ℕ) (limits : WithinLimits f (headerOf bytes)) (laid : LaidOut f (headerOf bytes) bytes) (mode-small : f .mode < 256 ^ 4)
+module _ (f : Form) (bytes : List ℕ) (limits : WithinLimits f (headerOf bytes)) (laid : LaidOut f (headerOf bytes) bytes) (mode-small : f .mode + 1 < 256 ^ 4)
     (small : wholeLength f (headerOf bytes) < 256 ^ 4) where
+  -- as many points, however many proposals
+  same-points : (k : ℕ) → pointBytes f (withProposals (headerOf bytes) k) ≡ pointBytes f (headerOf bytes)
+  unfolding pointBytes hasPoints
+  same-points k = refl
+
+  points-are : (k : ℕ) (points : List ℕ) → pointsOf f (withProposals (headerOf bytes) k) points ≡ pointsOf f (headerOf bytes) points
+  unfolding pointsOf hasPoints
+  points-are k points = refl
+
   fewer : (k : ℕ) → k ≤ headerOf bytes .proposals → Fits f (withProposals (headerOf bytes) k)
-  fewer k few = record { limits = (limits .0, omega (arith, limits .1)); mode = laid .0 .1; mode-small = omega (arith, laid .0 .1); small = omega arith }
+  fewer k few = record {
+    limits = (limits .0, omega (arith, limits .1));
+    mode = laid .0 .1;
+    mode-small = ⊎-elim (λ e. omega (arith, e)) (λ e. omega (arith, e)) (laid .0 .1);
+    small = omega (arith, same-points k);
+  }
 
   within-file : (start size : ℕ) → start + size ≤ wholeLength f (headerOf bytes) → length (section bytes start size) ≡ size
   within-file start size l = part-length bytes start size (omega (arith, laid .1, laid .0 .0 .1))
 
   rows-long : length (section bytes rowsAt (rowBytes f * headerOf bytes .rows)) ≡ rowBytes f * headerOf bytes .rows
   rows-long = within-file rowsAt (rowBytes f * headerOf bytes .rows) (omega arith)
+
+  points-long : (k : ℕ) → length (pointsSection f bytes) ≡ pointBytes f (withProposals (headerOf bytes) k)
+  points-long k = within-file (pointsAt f (headerOf bytes)) (pointBytes f (headerOf bytes)) (omega arith) ∙ sym (same-points k)
 
   -- cut to its first k proposals
   module _ (k : ℕ) (few : k ≤ headerOf bytes .proposals) where
@@ -129,7 +156,8 @@ module _ (f : Form) (bytes : List ℕ) (limits : WithinLimits f (headerOf bytes)
     unfolding cutTo
     cut-laid =
         let h = withProposals (headerOf bytes) k in
-        made-laid f h (fewer k few) _ (omega (arith, within-file rowsAt (wholeLength f h - rowsAt) (omega arith)))
+        made-laid f h (fewer k few) _
+        (omega (arith, length-append (section bytes rowsAt (pointsAt f h - rowsAt)) (pointsSection f bytes), within-file rowsAt (pointsAt f h - rowsAt) (omega arith), points-long k))
 
     pub cut-job : jobOf f (cutTo f k bytes) ≡ cutJob k (jobOf f bytes)
     unfolding cutTo jobOf
@@ -138,8 +166,11 @@ module _ (f : Form) (bytes : List ℕ) (limits : WithinLimits f (headerOf bytes)
         let proposals = jobOf f bytes .proposals in
         rw (
           first-parts f bytes h,
-          made-job f h (fewer k few) (section bytes rowsAt (rowBytes f * h .rows)) (section bytes (marksAt f h) (h .rows)) (section bytes (proposalsAt f h) (8 * k))
-              rows-long (within-file (marksAt f h) (h .rows) (omega arith)) (within-file (proposalsAt f h) (8 * k) (omega arith)),
+          append-assoc,
+          append-assoc,
+          made-job f h (fewer k few) (section bytes rowsAt (rowBytes f * h .rows)) (section bytes (marksAt f h) (h .rows)) (section bytes (proposalsAt f h) (8 * k)) (pointsSection f bytes)
+              rows-long (within-file (marksAt f h) (h .rows) (omega arith)) (within-file (proposalsAt f h) (8 * k) (omega arith)) (points-long k),
+          points-are k (pointsSection f bytes),
           tabulate-is k (proposalIn (section bytes (proposalsAt f h) (8 * k))) blank (take k proposals) (length-take-le k proposals (rw (job-proposals f bytes) few)) (λ i l.
               proposal-part bytes (proposalsAt f h) (8 * k) i (omega arith) ∙ sym (proposal-stands f bytes blank i (omega arith)) ∙ sym (getD-take k proposals i blank l)),
         )
@@ -154,7 +185,7 @@ module _ (f : Form) (bytes : List ℕ) (limits : WithinLimits f (headerOf bytes)
     unfolding remade
     remade-laid =
         made-laid f (withProposals (headerOf bytes) (length proposals)) (fewer (length proposals) few) _
-        (simp (length-append, rows-long, proposals-long) (omega arith))
+        (simp (length-append, rows-long, proposals-long, points-long (length proposals)) (omega arith))
 
     pub remade-job : ((p : Proposal) → Among p proposals → (p .row < 256 ^ 4) × (p .kind < 256 ^ 4))
         → jobOf f (remade f marks proposals bytes) ≡ remadeJob marks proposals (jobOf f bytes)
@@ -162,9 +193,11 @@ module _ (f : Form) (bytes : List ℕ) (limits : WithinLimits f (headerOf bytes)
     remade-job fit =
         let h = withProposals (headerOf bytes) (length proposals) in
         rw (
-          made-job f h (fewer (length proposals) few) (section bytes rowsAt (rowBytes f * h .rows)) marks (proposalBytes proposals) rows-long each (proposals-long proposals),
+          made-job f h (fewer (length proposals) few) (section bytes rowsAt (rowBytes f * h .rows)) marks (proposalBytes proposals) (pointsSection f bytes) rows-long each (proposals-long proposals)
+              (points-long (length proposals)),
+          points-are (length proposals) (pointsSection f bytes),
           tabulate-is (length proposals) (proposalIn (proposalBytes proposals)) blank proposals refl (proposal-at proposals fit),
         )
 
 pub track-small : (h : Header) → WithinLimits track h → wholeLength track h < 256 ^ 4
-track-small h limits = omega arith
+track-small h limits = omega (arith, points-few track h)

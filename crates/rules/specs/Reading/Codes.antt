@@ -1,8 +1,8 @@
--- The twelve codes: each is given, with its place, exactly if its condition holds there and none before it does; and what each leaves.
+-- The fifteen codes: each is given, with its place, exactly if its condition holds there and none before it does; and what each leaves.
 use mathlib.Core.Path.{_≡_, sym, ap, _∙_}
 use mathlib.Core.Logic.{_⊎_, ⊎-elim, _↔_, Iff·trans, _≢_}
-use mathlib.Core.Bool.{Bool, true, not, _&&_, _||_}
-use mathlib.Core.Option.{none}
+use mathlib.Core.Bool.{Bool, true, false, not, _&&_, _||_}
+use mathlib.Core.Option.{Option, some, none}
 use mathlib.Core.List.{List, [], _∷_, _++_}
 use Prim.Native.Nat.{ℕ, zero, suc, _+_, _-_, _≤_, _<_}
 use native.Mathlib.Nat.{zero-lt-suc}
@@ -14,9 +14,11 @@ use borrow.Author.Tests.{ne-eqb, not-false, lt-ltb, le-leb, lt-leb}
 use Rattle.rules.specs.Below.{found, lowest}
 use Rattle.rules.specs.Table.{Table, tableOf, rising, idsBelow, before, trianglesShared, edgesJoined, verticesJoined}
 use Rattle.rules.specs.Skin.{ringless, clean}
+use Rattle.rules.specs.Points.{Point}
+use Rattle.rules.specs.Outward.{offGrid, flat, folded}
 use Rattle.rules.specs.First.{Test, given, Verdict, firstMatch}
 use Rattle.rules.specs.Proposals.{insideIn}
-use Rattle.rules.specs.Job.{Form, Header, headerWord, headerOf, mostIds, mostRows, mostProposals, least, within, withinLimits, rowsAt, marksAt, proposalsAt, wholeLength, laidOut, rowsTable, Job, jobOf, cleanWith, Lent, workRoom, listRoom, shortRooms, roomShort, written, codes, layoutTests, roomTests, badRow, notAfter, tableTests, unlike, markTests, sectionTests, jobTests, Result, accepted, refused, verdictOn, run}
+use Rattle.rules.specs.Job.{Form, Header, headerWord, headerOf, hasPoints, mostIds, mostRows, mostProposals, least, within, withinLimits, rowsAt, marksAt, proposalsAt, wholeLength, laidOut, rowsTable, Job, jobOf, cleanWith, Lent, workRoom, listRoom, shortRooms, roomShort, written, codes, layoutTests, roomTests, badRow, notAfter, tableTests, unlike, markTests, shown, pointTests, sectionTests, jobTests, Result, accepted, refused, verdictOn, run}
 use Rattle.rules.specs.Laws.Job.{job-corners}
 use Rattle.rules.specs.Laws.Truth.{is-true, is-false, not-both, and-both, not-reads, and-reads, or-reads, eqb-reads, ltb-reads, leb-reads, same-or-not}
 use Rattle.rules.specs.Laws.Below.{lowest-none, none-any}
@@ -25,6 +27,7 @@ use Rattle.rules.specs.Reading.Rows.{First, lowest-first, Rising, rising
 use Rattle.rules.specs.Reading.Closed.{TrianglesShared, triangles-read, EdgesJoined, edges-read, VerticesJoined, vertices-read, Paired, Closed}
 use Rattle.rules.specs.Reading.Skin.{Inside, inside-reads, SkinVertex, SkinTriangle, skin-vertex-reads}
 use Rattle.rules.specs.Reading.Outer.{OuterAlike, Unlike, unlike-reads, alike-exactly}
+use Rattle.rules.specs.Reading.Points.{OffGrid, off-grid-reads, Flat, flat-reads, Folded, folded-reads}
 use Rattle.rules.specs.Reading.Ring.{OneRing, Clean, one-ring-reads, ring-plain}
 
 -- ---- the header and the room
@@ -45,20 +48,21 @@ module _ (f : Form) where
       range : (low n high : ℕ) → (within low n high ≡ true) ↔ Within low n high
       range low n high = and-reads (leb-reads low n) (leb-reads n high)
 
-  -- words 3 to 7 are, for a track, 32, 32 + 16N, 32 + 17N, 32 + 17N + 8P and 0, and word 6 is the length lent
+  -- words 3 to 7 are, for a track, 32, 32 + 16N, 32 + 17N, 32 + 17N + 8P and 0, or with points 32 + 17N + 8P + 6V and 1, and word 6 is the
+  -- length lent
   abbrev pub LaidOut : Header → List ℕ → Type 0
   LaidOut h bytes =
       (((((headerWord bytes 3 ≡ rowsAt) × (headerWord bytes 4 ≡ marksAt f h)) × (headerWord bytes 5 ≡ proposalsAt f h))
-      × (headerWord bytes 6 ≡ wholeLength f h)) × (h .mode ≡ f .mode)) × (headerWord bytes 6 ≡ length bytes)
+      × (headerWord bytes 6 ≡ wholeLength f h)) × ((h .mode ≡ f .mode) ⊎ (h .mode ≡ f .mode + 1))) × (headerWord bytes 6 ≡ length bytes)
 
   pub laid-out-reads : (h : Header) (bytes : List ℕ) → (laidOut f h bytes ≡ true) ↔ LaidOut h bytes
-  unfolding laidOut
+  unfolding laidOut hasPoints
   laid-out-reads h bytes =
       and-reads
       (and-reads
       (and-reads
       (and-reads (and-reads (eqb-reads (headerWord bytes 3) rowsAt) (eqb-reads (headerWord bytes 4) (marksAt f h))) (eqb-reads (headerWord bytes 5) (proposalsAt f h)))
-      (eqb-reads (headerWord bytes 6) (wholeLength f h))) (eqb-reads (h .mode) (f .mode)))
+      (eqb-reads (headerWord bytes 6) (wholeLength f h))) (or-reads (eqb-reads (h .mode) (f .mode)) (eqb-reads (h .mode) (f .mode + 1))))
       (eqb-reads (headerWord bytes 6) (length bytes))
 
   -- where none of the codes 1 to 3 is given, the header is within its limits and laid out
@@ -105,6 +109,21 @@ markConditions t idCount marks =
     ∷ First (t .rows) (Unlike t marks)
     -- 12: starting skin not clean: a skin vertex without one ring
     ∷ First idCount (λ v. SkinVertex t (Inside marks) v × (OneRing idCount (SkinTriangle t (Inside marks) v) → ⊥))
+    ∷ []
+
+-- there are points, and they are so
+abbrev pub Shown : Option (ℕ → Point) → ((ℕ → Point) → Type 0) → Type 0
+Shown none P = ⊥
+Shown (some at) P = P at
+
+abbrev pub pointConditions : Table → ℕ → Option (ℕ → Point) → List (ℕ → Type 0)
+pointConditions t idCount points =
+    -- 13: a point out of range, or id 0 not zero
+    (λ place. Shown points (λ at. First idCount (OffGrid at) place))
+    -- 14: a finite row of zero volume
+    ∷ (λ place. Shown points (λ at. First (t .rows) (Flat t at) place))
+    -- 15: two finite neighbours on the same side of their triangle
+    ∷ (λ place. Shown points (λ at. First (t .rows) (Folded t at) place))
     ∷ []
 
 module _ (t : Table) (idCount : ℕ) where
@@ -182,10 +201,11 @@ module _ (t : Table) (idCount : ℕ) where
       broken c (suc (suc (suc (suc zero)))) place f = f .is (c .vertices place (f .below))
       broken c (suc (suc (suc (suc (suc i))))) place f = f
 
-  -- codes 10 to 12, on a closed table of four corners
-  marks-read : t .corners ≡ 4 → (marks : List ℕ) → Closed t idCount → Reads (markTests t idCount marks) (markConditions t idCount marks)
+  -- codes 10 to 12, and what comes after them, on a closed table of four corners
+  marks-read : t .corners ≡ 4 → (marks : List ℕ) → Closed t idCount → (tests : List Test) (conditions : List (ℕ → Type 0)) → Reads tests conditions
+      → Reads (markTests t idCount marks ++ tests) (markConditions t idCount marks ++ conditions)
   unfolding markTests ringless
-  marks-read four marks closed = (
+  marks-read four marks closed tests conditions rest = (
     lowest-first (t .rows) (λ r. not (eqb (getD marks r 0) 0 || eqb (getD marks r 0) 1)) (λ r. ((getD marks r 0 ≡ 0) ⊎ (getD marks r 0 ≡ 1)) → ⊥)
         (λ r _. not-reads (or-reads (eqb-reads (getD marks r 0) 0) (eqb-reads (getD marks r 0) 1))),
     λ _. (
@@ -195,15 +215,36 @@ module _ (t : Table) (idCount : ℕ) where
             (λ v. SkinVertex t (Inside marks) v × (OneRing idCount (SkinTriangle t (Inside marks) v) → ⊥))
             (λ v _. and-reads (skin-vertex-reads t four (insideIn marks) (inside-reads marks) (closed .paired) v)
             (not-reads (Iff·trans (one-ring-reads t (insideIn marks) idCount v) (ring-plain t four (insideIn marks) (inside-reads marks) idCount v)))),
-        λ _. tt,
+        λ _. rest,
       ),
     ),
   )
 
+  -- codes 13 to 15
+  points-read : (points : Option (ℕ → Point)) → Closed t idCount → Reads (pointTests t idCount points) (pointConditions t idCount points)
+  unfolding pointTests shown
+  points-read none closed = (nothing, λ _. (nothing, λ _. (nothing, λ _. tt)))
+    where
+      nothing : (place : ℕ) → (_≡_ {A = Option ℕ} none (some place)) ↔ ⊥
+      nothing place = (λ e. let z : _≡_ {A = ℕ} 0 1 = cc in omega arith, λ x. absurd x)
+  points-read (some at) closed = (
+    lowest-first idCount (offGrid at) (OffGrid at) (λ v _. off-grid-reads at v),
+    λ _. (
+      lowest-first (t .rows) (flat t at) (Flat t at) (λ r _. flat-reads t at r),
+      λ _. (lowest-first (t .rows) (folded t at) (Folded t at) (folded-reads t (closed .paired) at), λ _. tt),
+    ),
+  )
+
+  -- codes 10 to 15
+  later-read : t .corners ≡ 4 → (marks : List ℕ) (points : Option (ℕ → Point)) → Closed t idCount
+      → Reads (markTests t idCount marks ++ pointTests t idCount points) (markConditions t idCount marks ++ pointConditions t idCount points)
+  later-read four marks points closed = marks-read four marks closed (pointTests t idCount points) (pointConditions t idCount points) (points-read points closed)
+
   -- marks of 0 and 1, outer rows alike and a clean skin: none of the codes 10 to 12
   pub marks-fit : t .corners ≡ 4 → (marks : List ℕ) → Closed t idCount → ((r : ℕ) → r < t .rows → (getD marks r 0 ≡ 0) ⊎ (getD marks r 0 ≡ 1))
       → OuterAlike t marks → Clean t (Inside marks) idCount → firstMatch 10 (markTests t idCount marks) .code ≡ 0
-  marks-fit four marks closed binary alike rings = none-reads 10 (zero-lt-suc 9) (markTests t idCount marks) (markConditions t idCount marks) (marks-read four marks closed) .1 off
+  unfolding markTests
+  marks-fit four marks closed binary alike rings = none-reads 10 (zero-lt-suc 9) (markTests t idCount marks) (markConditions t idCount marks) (marks-read four marks closed [] [] tt) .1 off
     where
       off : (i place : ℕ) → conditionAt (markConditions t idCount marks) i place → ⊥
       off zero r f = f .is (binary r (f .below))
@@ -211,11 +252,12 @@ module _ (t : Table) (idCount : ℕ) where
       off (suc (suc zero)) v f = f .is .1 (rings v (f .below) (f .is .0))
       off (suc (suc (suc i))) place f = f
 
--- ---- the twelve codes
+-- ---- the fifteen codes
 
--- codes 5 to 9, and 10 to 12
+-- codes 5 to 9, 10 to 12, and 13 to 15
 abbrev pub sectionConditions : Job → List (ℕ → Type 0)
-sectionConditions job = tableConditions (job .table) (job .ids) ++ markConditions (job .table) (job .ids) (job .marks)
+sectionConditions job =
+    tableConditions (job .table) (job .ids) ++ (markConditions (job .table) (job .ids) (job .marks) ++ pointConditions (job .table) (job .ids) (job .points))
 
 module _ (f : Form) (bytes : List ℕ) (lent : Lent) where
   -- The rows of document 01's table of codes. Those with place 0 say so.
@@ -242,47 +284,49 @@ module _ (f : Form) (bytes : List ℕ) (lent : Lent) where
             given-reads (not-reads (laid-out-reads f (headerOf bytes) bytes)),
             λ _. (
               given-reads (room-reads f (headerOf bytes) lent),
-              λ _. table-reads (job .table) (job .ids) (markTests (job .table) (job .ids) (job .marks)) (markConditions (job .table) (job .ids) (job .marks))
-                  (marks-read (job .table) (job .ids) (job-corners f bytes ∙ four) (job .marks)),
+              λ _. table-reads (job .table) (job .ids) (markTests (job .table) (job .ids) (job .marks) ++ pointTests (job .table) (job .ids) (job .points))
+                  (markConditions (job .table) (job .ids) (job .marks) ++ pointConditions (job .table) (job .ids) (job .points))
+                  (later-read (job .table) (job .ids) (job-corners f bytes ∙ four) (job .marks) (job .points)),
             ),
           ),
         ),
       )
 
-  -- ---- the run
+-- ---- the run
 
-  pub run-accepted : verdictOn f bytes lent .code ≡ 0 → run f bytes lent ≡ accepted (jobOf f bytes) lent
+module _ (f : Form) (outward : Bool) (bytes : List ℕ) (lent : Lent) where
+  pub run-accepted : verdictOn f bytes lent .code ≡ 0 → run f outward bytes lent ≡ accepted outward (jobOf f bytes) lent
   unfolding run
   run-accepted e = rw e
 
-  run-refused : verdictOn f bytes lent .code ≢ 0 → run f bytes lent ≡ refused f (headerOf bytes) (verdictOn f bytes lent) lent
+  run-refused : verdictOn f bytes lent .code ≢ 0 → run f outward bytes lent ≡ refused f (headerOf bytes) (verdictOn f bytes lent) lent
   unfolding run
   run-refused ne = rw (ne-eqb (verdictOn f bytes lent .code) 0 ne)
 
   -- its code and place are the verdict's
-  pub run-code : run f bytes lent .code ≡ verdictOn f bytes lent .code
+  pub run-code : run f outward bytes lent .code ≡ verdictOn f bytes lent .code
   unfolding accepted refused
   run-code =
       ⊎-elim (λ e. ap (λ (r : Result). r .code) (run-accepted e) ∙ sym e) (λ ne. ap (λ (r : Result). r .code) (run-refused ne))
       (same-or-not (verdictOn f bytes lent .code) 0)
 
-  run-place : run f bytes lent .place ≡ verdictOn f bytes lent .place
+  run-place : run f outward bytes lent .place ≡ verdictOn f bytes lent .place
   unfolding accepted refused verdictOn
   run-place =
       ⊎-elim (λ e. ap (λ (r : Result). r .place) (run-accepted e) ∙ sym (match-none 1 (zero-lt-suc 0) (jobTests f bytes lent) e))
       (λ ne. ap (λ (r : Result). r .place) (run-refused ne)) (same-or-not (verdictOn f bytes lent .code) 0)
 
-  -- a code from 0 to 12
-  pub run-code-below : run f bytes lent .code ≤ codes
-  unfolding verdictOn jobTests layoutTests roomTests tableTests markTests
+  -- a code from 0 to 15
+  pub run-code-below : run f outward bytes lent .code ≤ codes
+  unfolding verdictOn jobTests layoutTests roomTests tableTests markTests pointTests
   run-code-below = rw run-code (omega (arith, match-below 1 (zero-lt-suc 0) (jobTests f bytes lent)))
 
   module _ (four : f .corners ≡ 4) where
     -- code 1 + i is given at a place exactly if condition i holds there and none before it holds anywhere
-    pub code-exactly : (i place : ℕ) → i < codes → ((run f bytes lent .code ≡ 1 + i) × (run f bytes lent .place ≡ place)) ↔ FirstOf jobConditions i place
-    unfolding verdictOn jobTests layoutTests roomTests tableTests markTests
+    pub code-exactly : (i place : ℕ) → i < codes → ((run f outward bytes lent .code ≡ 1 + i) × (run f outward bytes lent .place ≡ place)) ↔ FirstOf (jobConditions f bytes lent) i place
+    unfolding verdictOn jobTests layoutTests roomTests tableTests markTests pointTests
     code-exactly i place l =
-        let (forth, back) = first-reads 1 (zero-lt-suc 0) (jobTests f bytes lent) jobConditions (codes-read four) i place l in (
+        let (forth, back) = first-reads 1 (zero-lt-suc 0) (jobTests f bytes lent) (jobConditions f bytes lent) (codes-read f bytes lent four) i place l in (
           λ (e, g). forth (verdict-is (sym run-code ∙ e) (sym run-place ∙ g)),
           λ x. (run-code ∙ ap (λ (v : Verdict). v .code) (back x), run-place ∙ ap (λ (v : Verdict). v .place) (back x)),
         )
@@ -291,10 +335,10 @@ module _ (f : Form) (bytes : List ℕ) (lent : Lent) where
         verdict-is e g = λ k. record { code = e k; place = g k }
 
     -- code 0 exactly if no condition holds
-    pub accepted-exactly : (run f bytes lent .code ≡ 0) ↔ ((i place : ℕ) → conditionAt jobConditions i place → ⊥)
+    pub accepted-exactly : (run f outward bytes lent .code ≡ 0) ↔ ((i place : ℕ) → conditionAt (jobConditions f bytes lent) i place → ⊥)
     unfolding verdictOn
     accepted-exactly =
-        let (forth, back) = none-reads 1 (zero-lt-suc 0) (jobTests f bytes lent) jobConditions (codes-read four) in
+        let (forth, back) = none-reads 1 (zero-lt-suc 0) (jobTests f bytes lent) (jobConditions f bytes lent) (codes-read f bytes lent four) in
         (λ e. forth (sym run-code ∙ e), λ off. run-code ∙ back off)
 
   room-passes : (RoomShort f (headerOf bytes) lent → ⊥) → firstMatch 4 (roomTests f (headerOf bytes) lent) .code ≡ 0
@@ -303,16 +347,16 @@ module _ (f : Form) (bytes : List ℕ) (lent : Lent) where
 
   -- a file that is laid out and reads as a header and a job, with room enough and sections that pass, is run
   pub run-as : (h : Header) (job : Job) → headerOf bytes ≡ h → jobOf f bytes ≡ job → firstMatch 1 (layoutTests f bytes) .code ≡ 0 → (RoomShort f h lent → ⊥)
-      → firstMatch 5 (sectionTests job) .code ≡ 0 → run f bytes lent ≡ accepted job lent
+      → firstMatch 5 (sectionTests job) .code ≡ 0 → run f outward bytes lent ≡ accepted outward job lent
   unfolding verdictOn jobTests layoutTests roomTests
   run-as h job header is laid room sections =
       run-accepted (match-both 1 (zero-lt-suc 0) (layoutTests f bytes) _ laid
       (match-both 4 (zero-lt-suc 3) (roomTests f (headerOf bytes) lent) _ (room-passes (rw header room)) (rw is sections)))
-      ∙ ap (λ (j : Job). accepted j lent) is
+      ∙ ap (λ (j : Job). accepted outward j lent) is
 
   -- ---- what an accepted job keeps
 
-  module _ (ran : run f bytes lent .code ≡ 0) where
+  module _ (ran : run f outward bytes lent .code ≡ 0) where
     pub layout-passed : firstMatch 1 (layoutTests f bytes) .code ≡ 0
     unfolding verdictOn jobTests
     layout-passed = match-parts 1 (zero-lt-suc 0) (layoutTests f bytes) _ (sym run-code ∙ ran) .0
@@ -329,9 +373,16 @@ module _ (f : Form) (bytes : List ℕ) (lent : Lent) where
     accepted-closed =
         closed-reads (jobOf f bytes .table) (jobOf f bytes .ids) 5 (zero-lt-suc 4) .0 (match-parts 5 (zero-lt-suc 4) (tableTests (jobOf f bytes .table) (jobOf f bytes .ids)) _ sections-passed .0)
 
-    marks-passed : firstMatch 10 (markTests (jobOf f bytes .table) (jobOf f bytes .ids) (jobOf f bytes .marks)) .code ≡ 0
+    marks-on : firstMatch 10 (markTests (jobOf f bytes .table) (jobOf f bytes .ids) (jobOf f bytes .marks) ++ pointTests (jobOf f bytes .table) (jobOf f bytes .ids) (jobOf f bytes .points)) .code ≡ 0
     unfolding tableTests
-    marks-passed = match-parts 5 (zero-lt-suc 4) (tableTests (jobOf f bytes .table) (jobOf f bytes .ids)) _ sections-passed .1
+    marks-on = match-parts 5 (zero-lt-suc 4) (tableTests (jobOf f bytes .table) (jobOf f bytes .ids)) _ sections-passed .1
+
+    marks-passed : firstMatch 10 (markTests (jobOf f bytes .table) (jobOf f bytes .ids) (jobOf f bytes .marks)) .code ≡ 0
+    marks-passed = match-parts 10 (zero-lt-suc 9) (markTests (jobOf f bytes .table) (jobOf f bytes .ids) (jobOf f bytes .marks)) _ marks-on .0
+
+    pub points-passed : firstMatch 13 (pointTests (jobOf f bytes .table) (jobOf f bytes .ids) (jobOf f bytes .points)) .code ≡ 0
+    unfolding markTests
+    points-passed = match-parts 10 (zero-lt-suc 9) (markTests (jobOf f bytes .table) (jobOf f bytes .ids) (jobOf f bytes .marks)) _ marks-on .1
 
     -- each mark is 0 or 1
     pub accepted-marks : (r : ℕ) → r < jobOf f bytes .table .rows → (getD (jobOf f bytes .marks) r 0 ≡ 0) ⊎ (getD (jobOf f bytes .marks) r 0 ≡ 1)
@@ -362,6 +413,18 @@ module _ (f : Form) (bytes : List ℕ) (lent : Lent) where
         let broken = ringless (jobOf f bytes .table) (insideIn (jobOf f bytes .marks)) (jobOf f bytes .ids) in
         ap not (none-any (jobOf f bytes .ids) broken (lowest-none (jobOf f bytes .ids) broken n12))
 
+    -- where there are points, no finite row is flat, and no two finite neighbours are on the same side of their triangle
+    pub accepted-points : (at : ℕ → Point) → jobOf f bytes .points ≡ some at
+        → ((r : ℕ) → r < jobOf f bytes .table .rows → flat (jobOf f bytes .table) at r ≡ false)
+        × ((r : ℕ) → r < jobOf f bytes .table .rows → folded (jobOf f bytes .table) at r ≡ false)
+    unfolding pointTests shown
+    accepted-points at is =
+        let t = jobOf f bytes .table in
+        let (_, e14) = match-zero 13 (zero-lt-suc 12) _ _ (rw is at points-passed) in
+        let (n14, e15) = match-zero 14 (zero-lt-suc 13) _ _ e14 in
+        let (n15, _) = match-zero 15 (zero-lt-suc 14) _ _ e15 in
+        (lowest-none (t .rows) (flat t at) n14, lowest-none (t .rows) (folded t at) n15)
+
     -- the header is within its limits and laid out as it says
     pub accepted-header : WithinLimits f (headerOf bytes) × LaidOut f (headerOf bytes) bytes
     accepted-header =
@@ -379,9 +442,9 @@ module _ (f : Form) (bytes : List ℕ) (lent : Lent) where
   -- ---- what a refusal leaves
 
   -- zero for both counts, and nothing changed in answers, final marks and triangles
-  pub refusal-keeps : run f bytes lent .code ≢ 0
-      → (run f bytes lent .taken ≡ 0) × (run f bytes lent .triangles ≡ 0) × (run f bytes lent .left .answers ≡ lent .answers)
-      × (run f bytes lent .left .finalMarks ≡ lent .finalMarks) × (run f bytes lent .left .triangles ≡ lent .triangles)
+  pub refusal-keeps : run f outward bytes lent .code ≢ 0
+      → (run f outward bytes lent .taken ≡ 0) × (run f outward bytes lent .triangles ≡ 0) × (run f outward bytes lent .left .answers ≡ lent .answers)
+      × (run f outward bytes lent .left .finalMarks ≡ lent .finalMarks) × (run f outward bytes lent .left .triangles ≡ lent .triangles)
   unfolding refused
   refusal-keeps ne =
       let e = run-refused (λ (z : verdictOn f bytes lent .code ≡ 0). ne (run-code ∙ z)) in (
@@ -393,14 +456,14 @@ module _ (f : Form) (bytes : List ℕ) (lent : Lent) where
       )
 
   -- codes 1 to 4 don't touch work
-  pub early-refusal : run f bytes lent .code ≢ 0 → run f bytes lent .code ≤ 4 → run f bytes lent .left .work ≡ lent .work
+  pub early-refusal : run f outward bytes lent .code ≢ 0 → run f outward bytes lent .code ≤ 4 → run f outward bytes lent .left .work ≡ lent .work
   unfolding refused
   early-refusal ne l =
       ap (λ (r : Result). r .left .work) (run-refused (λ (z : verdictOn f bytes lent .code ≡ 0). ne (run-code ∙ z)))
       ∙ rw (le-leb (verdictOn f bytes lent .code) 4 (rw run-code at l))
 
-  -- codes 5 to 12 leave zero in its front, for a track 4N words, and the rest unchanged
-  pub late-refusal : 5 ≤ run f bytes lent .code → run f bytes lent .left .work ≡ replicate (workRoom f (headerOf bytes)) 0 ++ drop (workRoom f (headerOf bytes)) (lent .work)
+  -- codes 5 to 15 leave zero in its front, for a track 4N words, and the rest unchanged
+  pub late-refusal : 5 ≤ run f outward bytes lent .code → run f outward bytes lent .left .work ≡ replicate (workRoom f (headerOf bytes)) 0 ++ drop (workRoom f (headerOf bytes)) (lent .work)
   unfolding refused written
   late-refusal l =
       ap (λ (r : Result). r .left .work) (run-refused (λ (z : verdictOn f bytes lent .code ≡ 0). omega (arith, run-code)))

@@ -1,15 +1,20 @@
--- Where an id, a mark and a proposal stand in the job file.
+-- Where an id, a mark, a proposal and a point stand in the job file.
 use mathlib.Core.Path.{_≡_, _∙_}
+use mathlib.Core.Logic.{_↔_, _≢_}
+use mathlib.Core.Bool.{Bool, true, false, cond}
+use mathlib.Core.Option.{Option, some, none}
 use mathlib.Core.List.{List}
 use Prim.Native.Nat.{ℕ, _+_, _*_, _≤_, _<_}
 use native.Mathlib.Nat.{add-assoc, mul-comm, mul-assoc, mul-suc, mul-le-mul-left}
 use native.Mathlib.Omega.{arith}
 use lib.ListN.{getD}
 use lib.Seq.{getD-take, getD-drop}
+use borrow.Author.Tests.{eq-eqb, ne-eqb}
 use Rattle.rules.specs.Words.{word}
 use Rattle.rules.specs.Table.{tableOf}
+use Rattle.rules.specs.Points.{Point, signed, coordinate, pointIn}
 use Rattle.rules.specs.Proposals.{Proposal}
-use Rattle.rules.specs.Job.{Form, headerOf, rowBytes, rowsAt, marksAt, proposalsAt, section, rowsTable, proposalIn, jobOf}
+use Rattle.rules.specs.Job.{Form, headerOf, rowBytes, rowsAt, marksAt, proposalsAt, pointsAt, hasPoints, pointBytes, section, rowsTable, proposalIn, pointsOf, jobOf}
 use Rattle.rules.specs.Laws.Lists.{tabulate-at}
 use Rattle.rules.specs.Laws.Places.{place-below}
 use Rattle.rules.specs.Laws.Words.{word-part}
@@ -45,3 +50,36 @@ module _ (f : Form) (bytes : List ℕ) where
   proposal-stands d k l =
       let h = headerOf bytes in
       tabulate-at (h .proposals) _ d k l ∙ proposal-part bytes (proposalsAt f h) (8 * h .proposals) k (omega arith)
+
+  -- there are points exactly if word 7 says so: for a track, if it is 1
+  pub points-exactly : (jobOf f bytes .points ≡ none) ↔ (headerOf bytes .mode ≢ f .mode + 1)
+  unfolding jobOf pointsOf hasPoints
+  points-exactly =
+      let held = pointIn (section bytes (pointsAt f (headerOf bytes)) (pointBytes f (headerOf bytes))) in
+      (λ e is. some-none held (rw (eq-eqb (headerOf bytes .mode) (f .mode + 1) is) at e), λ ne. rw (ne-eqb (headerOf bytes .mode) (f .mode + 1) ne))
+    where
+      some-none : (at : ℕ → Point) → _≡_ {A = Option (ℕ → Point)} (some at) none → ⊥
+      some-none at e = let z : _≡_ {A = ℕ} 0 1 = cc in omega arith
+
+  -- for a track the point of id v is the three i16 from byte 32 + 17N + 8P + 6v on
+  pub point-stands : (at : ℕ → Point) → jobOf f bytes .points ≡ some at → (v : ℕ) → v < headerOf bytes .ids
+      → let place = pointsAt f (headerOf bytes) + 6 * v in
+      at v ≡ record { x = coordinate bytes place; y = coordinate bytes (place + 2); z = coordinate bytes (place + 4) }
+  unfolding jobOf pointsOf pointBytes pointIn coordinate
+  point-stands at e v l = go (hasPoints f (headerOf bytes)) e
+    where
+      start : ℕ
+      start = pointsAt f (headerOf bytes)
+
+      go : (b : Bool) → cond b (some (pointIn (section bytes start (cond b (6 * headerOf bytes .ids) 0)))) none ≡ some at
+          → at v ≡ record { x = signed (word 2 bytes (start + 6 * v)); y = signed (word 2 bytes (start + 6 * v + 2)); z = signed (word 2 bytes (start + 6 * v + 4)) }
+      go true q =
+          let is : at ≡ pointIn (section bytes start (6 * headerOf bytes .ids)) = cc in
+          rw is (rw (
+            word-part 2 bytes start (6 * headerOf bytes .ids) (6 * v) (omega arith),
+            word-part 2 bytes start (6 * headerOf bytes .ids) (6 * v + 2) (omega arith),
+            word-part 2 bytes start (6 * headerOf bytes .ids) (6 * v + 4) (omega arith),
+            add-assoc start (6 * v) 2,
+            add-assoc start (6 * v) 4,
+          ))
+      go false q = let z : _≡_ {A = ℕ} 0 1 = cc in absurd (omega arith)

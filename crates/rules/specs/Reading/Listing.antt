@@ -86,7 +86,7 @@ module _ (t : Table) (four : t .corners ≡ 4) {idCount : ℕ} (paired : Paired 
 
   module _ (inside : ℕ → Bool) {In : ℕ → Type 0} (told : (s : ℕ) → (inside s ≡ true) ↔ In s) where
     pub sides-listed : (ids : List ℕ) → Among ids (skin t inside) ↔ SideTriangle t In ids
-    sides-listed ids = (λ m. forth (skin-listed t inside told ids .0 m), λ x. skin-listed t inside told ids .1 (back x))
+    sides-listed ids = (λ m. forth (skin-listed t inside (triangle t) told ids .0 m), λ x. skin-listed t inside (triangle t) told ids .1 (back x))
       where
         on-skin : (r c : ℕ) → r < t .rows → c < t .corners → BetweenSides t In r c ↔ OnSkin t In r c
         on-skin r c l m = let (forth, back) = skin-between-sides t inside told paired r c l m in (λ b. skin-reads t inside told r c .0 (back b), λ x. forth (skin-reads t inside told r c .1 x))
@@ -130,7 +130,7 @@ module _ (t : Table) (four : t .corners ≡ 4) {idCount : ℕ} (paired : Paired 
       places = pick (4 * t .rows) (listedAt t inside);
       ascending = pick-ascending (4 * t .rows) (listedAt t inside);
       of-inside = λ p m. told (p / 4) .0 (and-first (inside (p / 4)) (onSkin t inside (p / 4) (p % 4)) (pick-in (4 * t .rows) (listedAt t inside) p m .1));
-      listed = skin-by-place t inside four ∙ sym (map-pick (4 * t .rows) (listedAt t inside) (triangleAt t));
+      listed = skin-by-place t inside (triangle t) four ∙ sym (map-pick (4 * t .rows) (listedAt t inside) (triangleAt t));
     }
 
     -- an empty skin is clean

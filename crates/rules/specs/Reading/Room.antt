@@ -14,7 +14,7 @@ use borrow.Author.Tests.{eqb-true, eq-eqb, eqb-false, ne-eqb, not-true}
 use Rattle.rules.specs.Below.{bit, sum, count, gather, only, pick}
 use Rattle.rules.specs.Shape.{facet}
 use Rattle.rules.specs.Table.{Table, side}
-use Rattle.rules.specs.Skin.{onSkin, triangle, skinOf, skin}
+use Rattle.rules.specs.Skin.{onSkin, triangle, skinOf, skinAs, skin}
 use Rattle.rules.specs.Laws.Truth.{true-or-false, not-both, and-first, and-second, and-both, same-or-not}
 use Rattle.rules.specs.Laws.Count.{sum-same, sum-add, sum-zero, sum-le, sum-const, sum-swap, bit-one, bit-zero, count-without, count-not, one-count, TheOther}
 use Rattle.rules.specs.Laws.Lists.{Among, Distinct, gather-same, gather-blocks, gather-length, in-gather, gather-in, gathered-once, in-only, only-in, only-length, in-pick, pick-in, pick-length}
@@ -29,13 +29,17 @@ module _ (t : Table) (inside : ℕ → Bool) where
   listed : ℕ → ℕ → Bool
   listed r c = inside r && onSkin t inside r c
 
-  skin-length : length (skin t inside) ≡ sum (t .rows) (λ r. sum (t .corners) (λ c. bit (listed r c)))
-  unfolding skin skinOf listed
-  skin-length =
-      gather-length (t .rows) (skinOf t inside)
-      ∙ sum-same (t .rows) (λ r. length (skinOf t inside r)) (λ r. sum (t .corners) (λ c. bit (listed r c))) (λ r _.
-      gather-length (t .corners) (λ c. only (listed r c) (triangle t r c))
-      ∙ sum-same (t .corners) (λ c. length (only (listed r c) (triangle t r c))) (λ c. bit (listed r c)) (λ c _. only-length (listed r c) (triangle t r c)))
+  skin-length : (ids : ℕ → ℕ → List ℕ) → length (skinAs t inside ids) ≡ sum (t .rows) (λ r. sum (t .corners) (λ c. bit (listed r c)))
+  unfolding skinAs skinOf listed
+  skin-length ids =
+      gather-length (t .rows) (skinOf t inside ids)
+      ∙ sum-same (t .rows) (λ r. length (skinOf t inside ids r)) (λ r. sum (t .corners) (λ c. bit (listed r c))) (λ r _.
+      gather-length (t .corners) (λ c. only (listed r c) (ids r c))
+      ∙ sum-same (t .corners) (λ c. length (only (listed r c) (ids r c))) (λ c. bit (listed r c)) (λ c _. only-length (listed r c) (ids r c)))
+
+  -- as many triangles in whatever order their ids are listed
+  pub skin-same-length : (ids : ℕ → ℕ → List ℕ) → length (skinAs t inside ids) ≡ length (skin t inside)
+  skin-same-length ids = skin-length ids ∙ sym (skin-length (triangle t))
 
   bit-le : {a b : Bool} → (a ≡ true → b ≡ true) → bit a ≤ bit b
   bit-le {a = true} f = rw (f refl) (le-refl (bit true))
@@ -153,7 +157,7 @@ module _ (t : Table) (inside : ℕ → Bool) where
 
     -- twice the skin is at most the triangles of all rows
     skin-half : 2 * length (skin t inside) ≤ t .rows * t .corners
-    skin-half = rw skin-length (omega (arith, inside-count, outside-count, all-triangles))
+    skin-half = rw (skin-length (triangle t)) (omega (arith, inside-count, outside-count, all-triangles))
 
     -- at most 2N triangles
     pub at-most-2N : t .corners ≡ 4 → length (skin t inside) ≤ 2 * t .rows
@@ -173,24 +177,27 @@ triangle-length t four r c l =
     three : count 4 (λ k. not (eqb k c)) ≡ 3
     three = omega (arith, count-not 4 (λ k. eqb k c), one)
 
--- the members of the skin list are the skin triangles of the inside rows
-pub record Listed (t : Table) (In : ℕ → Type 0) (ids : List ℕ) : Type 0 where
+-- the members of the skin list are the skin triangles of the inside rows, as their ids are listed
+pub record ListedAs (t : Table) (In : ℕ → Type 0) (ids : ℕ → ℕ → List ℕ) (x : List ℕ) : Type 0 where
   pub row : ℕ
   pub corner : ℕ
   pub row-below : row < t .rows
   pub corner-below : corner < t .corners
   pub row-inside : In row
   pub on-skin : OnSkin t In row corner
-  pub ids-are : ids ≡ triangle t row corner
+  pub ids-are : x ≡ ids row corner
 
-pub skin-listed : (t : Table) (inside : ℕ → Bool) {In : ℕ → Type 0} → ((s : ℕ) → (inside s ≡ true) ↔ In s)
-    → (ids : List ℕ) → Among ids (skin t inside) ↔ Listed t In ids
-unfolding skin skinOf
-skin-listed t inside told ids = (
+abbrev pub Listed : Table → (ℕ → Type 0) → List ℕ → Type 0
+Listed t In = ListedAs t In (triangle t)
+
+pub skin-listed : (t : Table) (inside : ℕ → Bool) (ids : ℕ → ℕ → List ℕ) {In : ℕ → Type 0} → ((s : ℕ) → (inside s ≡ true) ↔ In s)
+    → (x : List ℕ) → Among x (skinAs t inside ids) ↔ ListedAs t In ids x
+unfolding skinAs skinOf
+skin-listed t inside ids told x = (
   λ m.
-      let (r, l, i) = gather-in (t .rows) (skinOf t inside) ids m in
-      let (c, k, j) = gather-in (t .corners) (λ c. only (inside r && onSkin t inside r c) (triangle t r c)) ids i in
-      let (e, q) = only-in (inside r && onSkin t inside r c) (triangle t r c) ids j in
+      let (r, l, i) = gather-in (t .rows) (skinOf t inside ids) x m in
+      let (c, k, j) = gather-in (t .corners) (λ c. only (inside r && onSkin t inside r c) (ids r c)) x i in
+      let (e, q) = only-in (inside r && onSkin t inside r c) (ids r c) x j in
       record {
         row = r;
         corner = c;
@@ -200,10 +207,10 @@ skin-listed t inside told ids = (
         on-skin = skin-reads t inside told r c .0 (and-second (inside r) (onSkin t inside r c) e);
         ids-are = q;
       },
-  λ x.
-      in-gather (t .rows) (skinOf t inside) ids (x .row) (x .row-below)
-      (in-gather (t .corners) (λ c. only (inside (x .row) && onSkin t inside (x .row) c) (triangle t (x .row) c)) ids (x .corner) (x .corner-below)
-      (Memᴰ·cast (x .ids-are) (in-only (inside (x .row) && onSkin t inside (x .row) (x .corner)) (triangle t (x .row) (x .corner)) (and-both (told (x .row) .1 (x .row-inside)) (skin-reads t inside told (x .row) (x .corner) .1 (x .on-skin)))))),
+  λ y.
+      in-gather (t .rows) (skinOf t inside ids) x (y .row) (y .row-below)
+      (in-gather (t .corners) (λ c. only (inside (y .row) && onSkin t inside (y .row) c) (ids (y .row) c)) x (y .corner) (y .corner-below)
+      (Memᴰ·cast (y .ids-are) (in-only (inside (y .row) && onSkin t inside (y .row) (y .corner)) (ids (y .row) (y .corner)) (and-both (told (y .row) .1 (y .row-inside)) (skin-reads t inside told (y .row) (y .corner) .1 (y .on-skin)))))),
 )
 
 threes : (xs : List (List ℕ)) → ((x : List ℕ) → Among x xs → length x ≡ 3) → length (flatten xs) ≡ 3 * length xs
@@ -212,16 +219,17 @@ threes [] each = refl
 threes (x ∷ xs) each =
     length-append x (flatten xs) ∙ omega (arith, each x (List·Memᴰ·head refl), threes xs (λ y m. each y (List·Memᴰ·tail m)))
 
--- so the skin takes three words for each triangle
-pub skin-words : (t : Table) (inside : ℕ → Bool) → t .corners ≡ 4 → length (flatten (skin t inside)) ≡ 3 * length (skin t inside)
-skin-words t inside four =
-    threes (skin t inside) (λ ids m.
-    let x = skin-listed t inside (as-tested inside) ids .0 m in
-    ap length (x .ids-are) ∙ triangle-length t four (x .row) (x .corner) (subst (λ (n : ℕ). x .corner < n) four (x .corner-below)))
+-- so the skin takes three words for each triangle, in whatever order its ids are listed
+pub skin-words : (t : Table) (inside : ℕ → Bool) (ids : ℕ → ℕ → List ℕ) → ((r c : ℕ) → c < t .corners → length (ids r c) ≡ 3)
+    → length (flatten (skinAs t inside ids)) ≡ 3 * length (skinAs t inside ids)
+skin-words t inside ids three =
+    threes (skinAs t inside ids) (λ x m. let y = skin-listed t inside ids (as-tested inside) x .0 m in ap length (y .ids-are) ∙ three (y .row) (y .corner) (y .corner-below))
 
 -- and 6N words hold it
-pub skin-fits : (t : Table) (inside : ℕ → Bool) {idCount : ℕ} → Paired t idCount → t .corners ≡ 4 → length (flatten (skin t inside)) ≤ 6 * t .rows
-skin-fits t inside paired four = omega (arith, skin-words t inside four, at-most-2N t inside paired four)
+pub skin-fits : (t : Table) (inside : ℕ → Bool) (ids : ℕ → ℕ → List ℕ) → ((r c : ℕ) → c < t .corners → length (ids r c) ≡ 3) → {idCount : ℕ} → Paired t idCount
+    → t .corners ≡ 4 → length (flatten (skinAs t inside ids)) ≤ 6 * t .rows
+skin-fits t inside ids three paired four =
+    omega (arith, skin-words t inside ids three, skin-same-length t inside ids, at-most-2N t inside paired four)
 
 -- ---- each triangle stands once
 
@@ -247,15 +255,16 @@ abbrev pub listedAt : Table → (ℕ → Bool) → ℕ → Bool
 listedAt t inside p = inside (p / 4) && onSkin t inside (p / 4) (p % 4)
 
 -- the skin list goes by place
-pub skin-by-place : (t : Table) (inside : ℕ → Bool) → t .corners ≡ 4 → skin t inside ≡ gather (4 * t .rows) (λ p. only (listedAt t inside p) (triangleAt t p))
-unfolding skin skinOf
-skin-by-place t inside four =
-    ap (λ (n : ℕ). gather (t .rows) (λ r. gather n (λ c. only (inside r && onSkin t inside r c) (triangle t r c)))) four
-    ∙ gather-same (t .rows) (λ r. gather 4 (λ c. only (inside r && onSkin t inside r c) (triangle t r c)))
-    (λ r. gather 4 (λ e. only (listedAt t inside (4 * r + e)) (triangleAt t (4 * r + e)))) (λ r _.
-    gather-same 4 (λ c. only (inside r && onSkin t inside r c) (triangle t r c)) (λ e. only (listedAt t inside (4 * r + e)) (triangleAt t (4 * r + e)))
+pub skin-by-place : (t : Table) (inside : ℕ → Bool) (ids : ℕ → ℕ → List ℕ) → t .corners ≡ 4
+    → skinAs t inside ids ≡ gather (4 * t .rows) (λ p. only (listedAt t inside p) (ids (p / 4) (p % 4)))
+unfolding skinAs skinOf
+skin-by-place t inside ids four =
+    ap (λ (n : ℕ). gather (t .rows) (λ r. gather n (λ c. only (inside r && onSkin t inside r c) (ids r c)))) four
+    ∙ gather-same (t .rows) (λ r. gather 4 (λ c. only (inside r && onSkin t inside r c) (ids r c)))
+    (λ r. gather 4 (λ e. only (listedAt t inside (4 * r + e)) (ids ((4 * r + e) / 4) ((4 * r + e) % 4)))) (λ r _.
+    gather-same 4 (λ c. only (inside r && onSkin t inside r c) (ids r c)) (λ e. only (listedAt t inside (4 * r + e)) (ids ((4 * r + e) / 4) ((4 * r + e) % 4)))
     (λ c l. rw (row-of {m = 4} (lit< tt) r c l, within-row {m = 4} (lit< tt) r c l)))
-    ∙ sym (gather-blocks 4 (t .rows) (λ p. only (listedAt t inside p) (triangleAt t p)))
+    ∙ sym (gather-blocks 4 (t .rows) (λ p. only (listedAt t inside p) (ids (p / 4) (p % 4))))
 
 module _ (t : Table) (inside : ℕ → Bool) {idCount : ℕ} (paired : Paired t idCount) (four : t .corners ≡ 4) where
   -- two inside rows have no skin triangle in common, and no row has one twice
@@ -279,7 +288,7 @@ module _ (t : Table) (inside : ℕ → Bool) {idCount : ℕ} (paired : Paired t 
   -- no triangle of the skin list stands twice
   pub skin-once : Distinct (skin t inside)
   skin-once =
-      subst (λ (xs : List (List ℕ)). Distinct xs) (sym (skin-by-place t inside four))
+      subst (λ (xs : List (List ℕ)). Distinct xs) (sym (skin-by-place t inside (triangle t) four))
       (gathered-once (4 * t .rows) (listedAt t inside) (triangleAt t) (λ p q lp lq ep eq e.
       let (row, corner) = one-place (p / 4) (p % 4) (q / 4) (q % 4) (row-below {m = 4} (lit< tt) (t .rows) p lp) (mod-lt p (lit< tt)) (row-below {m = 4} (lit< tt) (t .rows) q lq) (mod-lt q (lit< tt)) ep eq e in
       omega (arith, div-add-mod p 4, div-add-mod q 4, row, corner)))

@@ -3,7 +3,7 @@ use Prim.Native.Nat.{ℕ, _+_, _*_}
 use mathlib.Core.Path.{_≡_, refl}
 use mathlib.Core.List.{List, [], _∷_, _++_, map}
 use lib.ListN.{take, drop, replicate}
-use Rattle.rules.specs.Job.{Lent, track, headerOf}
+use Rattle.rules.specs.Job.{Lent, track, headerOf, hasPoints, pointBytes}
 use Rattle.rules.specs.Made.{headerBytes, proposalBytes, cutTo, remade}
 use Rattle.rules.specs.Words.{word, words}
 use Rattle.rules.specs.Worked.{job, lend, done, Worked, ran, known, accepts, refuses, keeps, row, three, add, remove, proposal, tableA, tableB, tableC, tableD, marked}
@@ -207,5 +207,5 @@ late-jobs = refl
 pub made-over : (cutTo track 3 jobA ≡ job 5 tableA (marked 5 []) (add 4 ++ add 4 ++ add 0))
     × (remade track (marked 5 (4 ∷ [])) (record { row = 4; kind = 2 } ∷ record { row = 4; kind = 1 } ∷ record { row = 4; kind = 2 } ∷ []) jobA
     ≡ job 5 tableA (marked 5 (4 ∷ [])) (remove 4 ++ add 4 ++ remove 4))
-unfolding headerOf word cutTo remade headerBytes proposalBytes
+unfolding headerOf hasPoints pointBytes word cutTo remade headerBytes proposalBytes
 made-over = (refl, refl)

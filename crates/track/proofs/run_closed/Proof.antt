@@ -1,30 +1,34 @@
-use Rattle.track.specs.Stages.{the-marks, marks-refused, marks-accepted}
+use mathlib.Core.Path.{sym, ap, _∙_}
+use Rattle.track.specs.declared.Outcome.{Outcome}
+use Rattle.track.specs.Outcomes.{lent}
+use Rattle.track.specs.Stages.{the-marks, marks-refused, marks-accepted, on-grid}
 use borrow.Author.Needs.{needs}
 use Rattle.track.proofs.run_closed.Statement.{statement}
 use Rattle.track.proofs.run_closed.Tie as tie
 
-check-marks-requires : tie.Need-check-marks-requires
-check-marks-requires c κs = let start = c .before .before .before .before .before .before .before .before in the-marks (start .pre .0) (start .pre .1)
+look-at-marks-and-points-requires : tie.Need-look-at-marks-and-points-requires
+look-at-marks-and-points-requires c κs = let r = c .before .before .before .before .before .before .before .before .before .pre .0 in (the-marks r, r .points-long)
 
 returns : tie.Need-returns
 returns c =
-    let start = c .before .before .before .before .before .before .before .before .before .before .before .before .before .before .before .before in
-    marks-refused _ (start .pre .0) (start .pre .2) (c .before .before .before .before .before .before .before .check-marks .ensures) (c .before .before .before .before .before .before .of-marks .ensures) (c .before .before .before .before .if1 .taken) (c .before .before .clear .ensures)
+    let at-if1 = c .before .before .before .before in let at-look = at-if1 .before .before in
+    marks-refused _ _ _ (lent _ _ _ _) (at-look .look-at-marks-and-points .ensures) (at-look .before .before .before .before .before .before .before .before .before .before .pre .1) (at-if1 .if1 .taken) (c .before .before .clear .ensures)
 
 grow-requires : tie.Need-grow-requires
-grow-requires c κs = (_, c .before .before .before .before .before .before .before .before .before .before .before .before .before .before .before .before .pre .0)
+grow-requires c κs =
+    let at-if1 = c .before .before .before .before in let at-look = at-if1 .before .before in let r = at-look .before .before .before .before .before .before .before .before .before .before .pre .0 in
+    (r, on-grid _ _ _ (r .few-ids) (r .points-long) (ap (λ (x : Outcome). x .code) (sym (at-look .look-at-marks-and-points .ensures)) ∙ at-if1 .if1 .left))
 
 returns-2 : tie.Need-returns-2
 returns-2 c =
-    let start = c .before .before .before .before .before .before .before .before .before .before .before .before .before .before .before .before .before .before .before .before .before .before .before in
-    marks-accepted _ (start .pre .0) (start .pre .2) (c .before .before .before .before .before .before .before .before .before .before .before .before .before .before .check-marks .ensures) (c .before .before .before .before .before .before .before .before .before .before .before .before .before .of-marks .ensures) (c .before .before .before .before .before .before .before .before .before .before .before .if1 .left) (c .before .before .before .before .before .before .grow .ensures)
+    let at-grow = c .before .before .before .before .before .before in let at-if1 = at-grow .before .before .before .before .before in
+    marks-accepted _ _ _ (lent _ _ _ _) (at-if1 .before .before .look-at-marks-and-points .ensures) (at-if1 .if1 .left) (at-grow .grow .ensures)
 
 pub run-closed-spec : {M : Type 1} → statement M
 run-closed-spec =
     tie.close
     (tie.spec
-    check-marks-requires
-    (λ c κs. tt)
+    look-at-marks-and-points-requires
     (λ c κs. tt)
     (λ c. search needs)
     returns

@@ -1,11 +1,12 @@
 //! Prints the text of a generated job.
 
-use jobs::{growth, tables, text, Random};
+use jobs::{growth, placed, tables, text, Job, Random};
 use std::env;
 use std::process::ExitCode;
 
 const USAGE: &str = "generate_job FAMILY ROWS STEPS PROPOSALS SEED [inside]
-FAMILY is one of `tables::each_family`, and ROWS, at least 200, its most rows.
+FAMILY is one of `tables::each_family`, or one of `placed::each_family`, which
+have points, and ROWS, at least 200, its most rows.
 The starting marks are what STEPS proposals left, from empty ones, or with
 `inside` from those with the sky inside.";
 
@@ -34,8 +35,18 @@ fn generate(arguments: &[String]) -> Option<String> {
     let random = &mut Random::new(seed.parse().ok()?);
     let most = rows.parse().ok().filter(|&rows| rows >= 200)?;
     let mut tables = tables::each_family(most, random).into_iter();
-    let (_, table) = tables.find(|(name, _)| name == family)?;
-    let mut job = table.job();
+    let mut placed = placed::each_family(most, &mut random.clone()).into_iter();
+    let (table, points) = match tables.find(|(name, _)| name == family) {
+        Some((_, table)) => (table, None),
+        None => {
+            let (_, placed) = placed.find(|(name, _)| name == family)?;
+            (placed.table, Some(placed.points))
+        }
+    };
+    let mut job = Job {
+        points,
+        ..table.job()
+    };
     let start = growth::even_marks(&table, sky, 0);
     job.marks = growth::marks_after(&table, start, steps.parse().ok()?, 90, random);
     growth::propose(&mut job, proposals.parse().ok()?, 60, random);

@@ -1,0 +1,45 @@
+use mathlib.Core.Path.{_≡_, refl, sym, _∙_}
+use mathlib.Core.Option.{none}
+use Prim.Native.Nat.{_-_}
+use borrow.Author.Needs.{needs}
+use Rattle.rules.specs.Below.{lowest}
+use Rattle.rules.specs.Points.{pointIn}
+use Rattle.rules.specs.Outward.{flat}
+use Rattle.rules.specs.Laws.Below.{searched-more, search-stops, search-ends}
+use Rattle.table.specs.Rows.{tableIn}
+use Rattle.points.proofs.flat_row.Statement.{statement}
+use Rattle.points.proofs.flat_row.Tie as tie
+
+abbrev Inv-loop : tie.InvT-loop
+Inv-loop rows points ids n row₀ row = lowest row (flat (tableIn rows) (pointIn points)) ≡ none
+
+abbrev μ-loop : tie.MeasureT-loop
+μ-loop rows points ids n row₀ row = n - row
+
+loop-holds : tie.Need-loop-holds Inv-loop μ-loop
+unfolding lowest
+loop-holds c = refl
+
+returns : tie.Need-returns Inv-loop μ-loop
+returns c = sym (search-stops _ _ (flat (tableIn _) (pointIn _)) (c .before .before .before .loop .inv) (search needs) (sym (c .before .is-flat .ensures) ∙ c .if1 .taken))
+
+loop-again : tie.Need-loop-again Inv-loop μ-loop
+loop-again c = searched-more _ (flat (tableIn _) (pointIn _)) (c .before .before .before .loop .inv) (sym (c .before .is-flat .ensures) ∙ c .if1 .left)
+
+returns-2 : tie.Need-returns-2 Inv-loop μ-loop
+returns-2 c = sym (search-ends _ _ (flat (tableIn _) (pointIn _)) (c .before .loop .inv) (search needs))
+
+pub flat-row-spec : {M : Type 1} → statement M
+flat-row-spec =
+    tie.close
+    (tie.spec
+    Inv-loop
+    μ-loop
+    (λ c κs. tt)
+    loop-holds
+    (λ c κs. search needs)
+    returns
+    (λ c. search needs)
+    (λ c. search needs)
+    loop-again
+    returns-2)

@@ -1,0 +1,1 @@
+// No code: laws of whole numbers are proved in specs/.
