@@ -92,7 +92,8 @@ module _ (bytes : List ℕ) (outward : Bool) (before : Lent) (o : Outcome) (afte
     pub taken-flips : (k : ℕ) → k < proposals → answerAt k ≡ 0 → standing job (k + 1) ≡ flipped (standing job k) (proposalAt job k)
     pub refused-keeps : (k : ℕ) → k < proposals → answerAt k ≢ 0 → standing job (k + 1) ≡ standing job k
     pub ends : finalOf job ≡ standing job proposals
-    -- The list of rising ids, which `as-rising` ties to the one that is left: a triangle is listed exactly if of the two rows that hold it one is inside and one outside at the end, whichever of them names it
+    -- The list of rising ids, which `as-rising` ties to the one that is left: a triangle is listed exactly if of the two rows that hold it
+    -- one is inside and one outside at the end, whichever of them names it
     pub listed-exactly : (ids : List ℕ) → Among ids (skinWith job (finalOf job)) ↔ SideTriangle (job .table) (Inside (finalOf job)) ids
     -- its ids rise, it is listed once, and the list goes by inside row, then left-out corner
     pub ids-rise : (ids : List ℕ) → Among ids (skinWith job (finalOf job)) → ThreeRising ids
