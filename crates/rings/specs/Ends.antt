@@ -1,145 +1,95 @@
--- Far edges kept by their ends: at each end how many there are, and the other ends of the last two.
-use mathlib.Core.Path.{_≡_, refl, sym, ap, _∙_}
-use mathlib.Core.Logic.{⊎-elim, _≢_}
+-- The ends of the far edges of a vertex are twice as many as its skin triangles.
+use mathlib.Core.Path.{_≡_, refl, sym, ap, _∙_, subst}
+use mathlib.Core.Logic.{_⊎_, inl, inr, ⊎-elim, _≢_}
 use mathlib.Core.Bool.{Bool, true, false, _&&_, _||_, or-false}
-use mathlib.Core.List.{List}
-use Prim.Native.Nat.{ℕ, _+_, _≤_, _<_}
-use native.Mathlib.Omega.{arith}
-use lib.Dec.{eqb}
-use lib.ListN.{length, getD, set, replicate, length-set, length-replicate, getD-replicate}
-use lib.Seq.{getD-set-same, getD-set-other}
+use Prim.Native.Nat.{ℕ, _+_, _*_, _/_, _%_, _<_}
+use native.Mathlib.Nat.{mod-lt}
+use lib.Dec.{eqb, lit<}
 use borrow.Author.Tests.{eqb-true, eq-eqb, ne-eqb}
-use Rattle.rules.specs.Below.{count}
-use Rattle.rules.specs.Laws.Truth.{not-both, same-test, same-or-not, and-second, or-either, or-first, or-second}
-use Rattle.rules.specs.Laws.Count.{without, count-without, without-is, is-without, count-same, count-not, none-count}
-use Rattle.rules.specs.Laws.Joined.{Picked}
-use Rattle.rules.specs.Job.{mostRows, mostIds}
+use Rattle.rules.specs.Below.{bit, sum, count}
+use Rattle.rules.specs.Table.{Table}
+use Rattle.rules.specs.Skin.{onSkin, farEdge}
+use Rattle.rules.specs.Laws.Truth.{true-or-false, same-or-not, and-second}
+use Rattle.rules.specs.Laws.Count.{sum-same, sum-add, sum-zero, sum-swap, count-same, bit-one, bit-zero, none-count, one-count, any-count}
+use Rattle.rules.specs.Laws.Places.{row-below}
+use Rattle.rules.specs.Reading.Closed.{Paired}
+use Rattle.table.specs.Faces.{faceOf}
+use Rattle.rings.specs.Far.{inFace, firstEnd, secondEnd, InFace, in-face, first-in, second-in, split, beside, face-corner, face-rises, shown, shownAt, farAt, met-once, all-met}
 
-pub record Ends : Type 0 where
-  pub degree : List ℕ
-  pub last : List ℕ
-  pub before : List ℕ
+-- how many ends edges between numbers below n have, each counted from either side
+abbrev pub endsOf : ℕ → (ℕ → ℕ → Bool) → ℕ
+endsOf n far = sum n (λ a. count n (far a))
 
-abbrev pub ends : List ℕ → List ℕ → List ℕ → Ends
-ends degree last before = record { degree = degree; last = last; before = before }
+-- ---- one edge has two ends
 
--- at the end a one more edge, with the other end b
-unfoldable pub linked : ℕ → ℕ → Ends → Ends
-linked a b e = ends (set (e .degree) a (getD (e .degree) a 0 + 1)) (set (e .last) a b) (set (e .before) a (getD (e .last) a 0))
+module _ (n x y : ℕ) where
+  abbrev edge : ℕ → ℕ → Bool
+  edge a b = (eqb a x && eqb b y) || (eqb a y && eqb b x)
 
--- the edge of a and b, at both its ends
-abbrev pub joined : ℕ → ℕ → Ends → Ends
-joined a b e = linked b a (linked a b e)
+  one-end : (z : ℕ) → z < n → count n (λ b. eqb b z) ≡ 1
+  one-end z l = one-count n (λ b. eqb b z) (record { one = z; below = l; is = eq-eqb z z refl; only = λ k _ e. eqb-true k z e })
 
--- both ends have room for one more
-abbrev pub Roomy : ℕ → ℕ → List ℕ → Type 0
-Roomy a b degree = (a < mostIds) × (b < mostIds) × (getD degree a 0 ≤ mostIds) × (getD degree b 0 ≤ mostIds) × (length degree ≡ mostIds)
+  two-ends : x < n → y < n → x ≢ y → endsOf n edge ≡ 2
+  unfolding count
+  two-ends lx ly ne =
+      sum-same n (λ a. count n (edge a)) (λ a. bit (eqb a x) + bit (eqb a y)) (λ a _. at a (same-or-not a x) (same-or-not a y))
+      ∙ sum-add n (λ a. bit (eqb a x)) (λ a. bit (eqb a y)) ∙ rw (one-end x lx, one-end y ly)
+    where
+      at : (a : ℕ) → (a ≡ x) ⊎ (a ≢ x) → (a ≡ y) ⊎ (a ≢ y) → count n (edge a) ≡ bit (eqb a x) + bit (eqb a y)
+      at a (inl e) (inl f) = absurd (ne (sym e ∙ f))
+      at a (inl e) (inr nf) =
+          count-same n (edge a) (λ b. eqb b y) (λ b _. rw (eq-eqb a x e, ne-eqb a y nf) (or-false (eqb b y)))
+          ∙ one-end y ly ∙ sym (rw (bit-one (eq-eqb a x e), bit-zero (ne-eqb a y nf)))
+      at a (inr nf) (inl e) =
+          count-same n (edge a) (λ b. eqb b x) (λ b _. rw (ne-eqb a x nf, eq-eqb a y e))
+          ∙ one-end x lx ∙ sym (rw (bit-zero (ne-eqb a x nf), bit-one (eq-eqb a y e)))
+      at a (inr nf) (inr ng) =
+          none-count n (edge a) (λ b _. rw (ne-eqb a x nf, ne-eqb a y ng)) ∙ sym (rw (bit-zero (ne-eqb a x nf), bit-zero (ne-eqb a y ng)))
 
-pub room-after : {a b : ℕ} (e : Ends) {e′ : Ends} → Roomy a b (e .degree) → e′ ≡ linked a b e → getD (e′ .degree) b 0 < mostRows
-unfolding linked
-room-after {a} {b} e (la, lb, da, db, long) is =
-    rw is (⊎-elim (λ (p : b ≡ a). rw (p, getD-set-same (e .degree) a (getD (e .degree) a 0 + 1) 0 (omega arith)) (omega arith))
-    (λ ne. rw (getD-set-other (e .degree) a b (getD (e .degree) a 0 + 1) 0 ne) (omega arith)) (same-or-not b a))
+-- ---- place by place
 
--- the edges `far` between numbers below n
-pub record Kept (n : ℕ) (far : ℕ → ℕ → Bool) (e : Ends) : Type 0 where
-  pub degrees : length (e .degree) ≡ mostIds
-  pub lasts : length (e .last) ≡ mostIds
-  pub befores : length (e .before) ≡ mostIds
-  pub counted : (a : ℕ) → a < n → getD (e .degree) a 0 ≡ count n (far a)
-  pub one : (a : ℕ) → a < n → 1 ≤ getD (e .degree) a 0 → Picked n (far a) (getD (e .last) a 0)
-  pub two : (a : ℕ) → a < n → 2 ≤ getD (e .degree) a 0 → Picked n (far a) (getD (e .before) a 0) × (getD (e .before) a 0 ≢ getD (e .last) a 0)
+module _ {t : Table} {n : ℕ} (paired : Paired t n) (four : t .corners ≡ 4) (inside : ℕ → Bool) (v : ℕ) where
+  abbrev shownHere : ℕ → Bool
+  shownHere = shownAt t inside v
 
-pub kept-same : {n : ℕ} {far far′ : ℕ → ℕ → Bool} {e : Ends} → ((a b : ℕ) → a < n → b < n → far a b ≡ far′ a b) → Kept n far e → Kept n far′ e
-kept-same {n} {far} {far′} same k = record {
-  degrees = k .degrees;
-  lasts = k .lasts;
-  befores = k .befores;
-  counted = λ a l. k .counted a l ∙ count-same n (far a) (far′ a) (λ b m. same a b l m);
-  one = λ a l d. let (m, f) = k .one a l d in (m, sym (same a _ l m) ∙ f);
-  two = λ a l d. let ((m, f), ne) = k .two a l d in ((m, sym (same a _ l m) ∙ f), ne);
-}
+  place-ends : (p : ℕ) → p < 4 * t .rows → endsOf n (farAt t inside v p) ≡ bit (shownHere p) + bit (shownHere p)
+  unfolding farAt shown
+  place-ends p l = ⊎-elim on off (true-or-false (shownHere p))
+    where
+      row : p / 4 < t .rows
+      row = row-below {m = 4} (lit< tt) (t .rows) p l
 
-pub kept-none : (n : ℕ) → n ≤ mostIds → Kept n (λ _ _. false) (ends (replicate mostIds 0) (replicate mostIds 0) (replicate mostIds 0))
-kept-none n few = record {
-  degrees = length-replicate {A = ℕ} mostIds 0;
-  lasts = length-replicate {A = ℕ} mostIds 0;
-  befores = length-replicate {A = ℕ} mostIds 0;
-  counted = λ a l. zero a l ∙ sym (none-count n (λ _. false) (λ _ _. refl));
-  one = λ a l d. absurd (omega (arith, zero a l));
-  two = λ a l d. absurd (omega (arith, zero a l));
-}
-  where
-    zero : (a : ℕ) → a < n → getD {A = ℕ} (replicate mostIds 0) a 0 ≡ 0
-    zero a l = getD-replicate {A = ℕ} mostIds a 0 0 (omega arith)
+      corner : p % 4 < 4
+      corner = mod-lt p (lit< tt)
 
--- ---- one more edge
+      end-below : (u : ℕ) → InFace (faceOf t (p / 4) (p % 4)) u → u < n
+      end-below u i =
+          let (j, lj, _, e) = face-corner t (p / 4) (p % 4) u corner i in
+          rw (← e) (paired .below (p / 4) row j (subst (λ m. j < m) (sym four) lj))
 
--- the edges with one from a to b
-abbrev pub plus : (ℕ → ℕ → Bool) → ℕ → ℕ → ℕ → ℕ → Bool
-plus far a b x y = far x y || (eqb x a && eqb y b)
+      off : shownHere p ≡ false → endsOf n (farAt t inside v p) ≡ bit (shownHere p) + bit (shownHere p)
+      off e = sum-zero n (λ a. count n (farAt t inside v p a)) (λ a _. none-count n (farAt t inside v p a) (λ b _. rw e)) ∙ sym (rw (bit-zero e))
 
-module _ {n : ℕ} (few : n ≤ mostIds) {far : ℕ → ℕ → Bool} {e : Ends} (k : Kept n far e) (a b : ℕ) (la : a < n) (lb : b < n) where
-  pub degree-below : getD (e .degree) a 0 ≤ mostIds
-  degree-below = omega (arith, k .counted a la, count-not n (far a))
+      on : shownHere p ≡ true → endsOf n (farAt t inside v p) ≡ bit (shownHere p) + bit (shownHere p)
+      on e =
+          let g = faceOf t (p / 4) (p % 4) in
+          let rises = face-rises t four (paired .rising (p / 4) row) (p % 4) corner in
+          let held = in-face g v (and-second (onSkin t inside (p / 4) (p % 4)) (inFace g v) (and-second (inside (p / 4)) (onSkin t inside (p / 4) (p % 4) && inFace g v) e)) in
+          let s = split g v (rises .0) (rises .1) held in
+          let x = firstEnd g v in
+          let y = secondEnd g v in
+          sum-same n (λ a. count n (farAt t inside v p a)) (λ a. count n (edge n x y a))
+          (λ a _. count-same n (farAt t inside v p a) (edge n x y a) (λ b _. rw e (beside s (first-in g v) (second-in g v) a b)))
+          ∙ two-ends n x y (end-below x (first-in g v)) (end-below y (second-in g v)) (s .ends-differ .2)
+          ∙ sym (rw (bit-one e))
 
-  module _ (new : far a b ≡ false) where
-    now-far : plus far a b a b ≡ true
-    now-far = or-second (far a b) (rw (eq-eqb a a refl, eq-eqb b b refl))
-
-    still-far : (x y : ℕ) → far x y ≡ true → plus far a b x y ≡ true
-    still-far x y f = or-first (eqb x a && eqb y b) f
-
-    elsewhere : (x y : ℕ) → x ≢ a → plus far a b x y ≡ far x y
-    elsewhere x y ne = rw (ne-eqb x a ne) (or-false (far x y))
-
-    counted-here : count n (plus far a b a) ≡ count n (far a) + 1
-    counted-here =
-        count-without n (plus far a b a) b lb now-far
-        ∙ ap (λ (m : ℕ). m + 1) (count-same n (without (plus far a b a) b) (far a) (λ y _. same-test (without (plus far a b a) b y) (far a y)
-        (λ w. let (p, ne) = without-is (plus far a b a) b y w in
-        ⊎-elim (λ f. f) (λ q. absurd (ne (eqb-true y b (and-second (eqb a a) (eqb y b) q)))) (or-either (far a y) (eqb a a && eqb y b) p))
-        (λ f. is-without (plus far a b a) b y (still-far a y f) (λ (p : y ≡ b). not-both f (ap (far a) p ∙ new)))))
-
-    kept-linked : Kept n (plus far a b) (linked a b e)
-    unfolding linked
-    kept-linked = record {
-      degrees = length-set (e .degree) a (getD (e .degree) a 0 + 1) ∙ k .degrees;
-      lasts = length-set (e .last) a b ∙ k .lasts;
-      befores = length-set (e .before) a (getD (e .last) a 0) ∙ k .befores;
-      counted = λ x l. ⊎-elim (λ (p : x ≡ a). rw (p, degree-same) (sym (counted-here ∙ ap (λ (m : ℕ). m + 1) (sym (k .counted a la)))))
-          (λ ne. degree-other x ne ∙ k .counted x l ∙ count-same n (far x) (plus far a b x) (λ y _. sym (elsewhere x y ne))) (same-or-not x a);
-      one = λ x l d. ⊎-elim (λ (p : x ≡ a). rw (p, last-same) (lb, now-far))
-          (λ ne. let (m, f) = k .one x l (rw (degree-other x ne) at d) in rw (last-other x ne) (m, still-far x (getD (e .last) x 0) f)) (same-or-not x a);
-      two = λ x l d. ⊎-elim (λ (p : x ≡ a). rw (p, before-same, last-same) (two-here (rw (p, degree-same) at d)))
-          (λ ne. let ((m, f), differ) = k .two x l (rw (degree-other x ne) at d) in rw (before-other x ne, last-other x ne) ((m, still-far x (getD (e .before) x 0) f), differ)) (same-or-not x a);
-    }
-      where
-        degree-same : getD (set (e .degree) a (getD (e .degree) a 0 + 1)) a 0 ≡ getD (e .degree) a 0 + 1
-        degree-same = getD-set-same (e .degree) a (getD (e .degree) a 0 + 1) 0 (omega (arith, k .degrees))
-
-        last-same : getD (set (e .last) a b) a 0 ≡ b
-        last-same = getD-set-same (e .last) a b 0 (omega (arith, k .lasts))
-
-        before-same : getD (set (e .before) a (getD (e .last) a 0)) a 0 ≡ getD (e .last) a 0
-        before-same = getD-set-same (e .before) a (getD (e .last) a 0) 0 (omega (arith, k .befores))
-
-        degree-other : (x : ℕ) → x ≢ a → getD (set (e .degree) a (getD (e .degree) a 0 + 1)) x 0 ≡ getD (e .degree) x 0
-        degree-other x ne = getD-set-other (e .degree) a x (getD (e .degree) a 0 + 1) 0 ne
-
-        last-other : (x : ℕ) → x ≢ a → getD (set (e .last) a b) x 0 ≡ getD (e .last) x 0
-        last-other x ne = getD-set-other (e .last) a x b 0 ne
-
-        before-other : (x : ℕ) → x ≢ a → getD (set (e .before) a (getD (e .last) a 0)) x 0 ≡ getD (e .before) x 0
-        before-other x ne = getD-set-other (e .before) a x (getD (e .last) a 0) 0 ne
-
-        two-here : 2 ≤ getD (e .degree) a 0 + 1 → Picked n (plus far a b a) (getD (e .last) a 0) × (getD (e .last) a 0 ≢ b)
-        two-here d =
-            let (m, f) = k .one a la (omega arith) in
-            ((m, still-far a (getD (e .last) a 0) f), λ (p : getD (e .last) a 0 ≡ b). not-both f (ap (far a) p ∙ new))
-
--- the edge of a and b, at both ends
-pub kept-joined : {n : ℕ} → n ≤ mostIds → {far : ℕ → ℕ → Bool} {e : Ends} → Kept n far e → (a b : ℕ) → a < n → b < n → a ≢ b → far a b ≡ false → far b a ≡ false
-    → Kept n (plus (plus far a b) b a) (joined a b e)
-kept-joined few {far} k a b la lb ne new new′ =
-    kept-linked few (kept-linked few k a b la lb new) b a lb la (rw (new′, ne-eqb b a (λ (p : b ≡ a). ne (sym p))))
+  pub ends-twice : endsOf n (farEdge t inside v) ≡ count (4 * t .rows) (shownAt t inside v) + count (4 * t .rows) (shownAt t inside v)
+  unfolding count
+  ends-twice =
+      sum-same n (λ a. sum n (λ b. bit (farEdge t inside v a b))) (λ a. sum (4 * t .rows) (λ p. count n (farAt t inside v p a)))
+      (λ a _. sum-same n (λ b. bit (farEdge t inside v a b)) (λ b. count (4 * t .rows) (λ p. farAt t inside v p a b)) (λ b _. ap bit (sym (all-met t four inside v (paired .rising) a b))
+      ∙ any-count (4 * t .rows) (λ p. farAt t inside v p a b) (λ p q lp lq ep eq. met-once t four inside v (paired .rising) p q a b lp lq ep eq))
+      ∙ sum-swap n (4 * t .rows) (λ b p. bit (farAt t inside v p a b)))
+      ∙ sum-swap n (4 * t .rows) (λ a p. count n (farAt t inside v p a))
+      ∙ sum-same (4 * t .rows) (λ p. endsOf n (farAt t inside v p)) (λ p. bit (shownHere p) + bit (shownHere p)) place-ends
+      ∙ sum-add (4 * t .rows) (λ p. bit (shownHere p)) (λ p. bit (shownHere p))

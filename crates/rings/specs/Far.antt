@@ -1,8 +1,8 @@
--- The far edges of a vertex, gathered place by place: place p is the triangle of row p / 4 that leaves out corner p % 4.
--- Each far edge is met once, in the inside row that holds its triangle.
+-- The far edges of a vertex, by places: place p is the triangle of row p / 4 that leaves out corner p % 4. Each far edge is met at one place,
+-- in the inside row that holds its triangle.
 use mathlib.Core.Path.{_≡_, refl, sym, ap, _∙_, subst}
 use mathlib.Core.Logic.{_⊎_, inl, inr, ⊎-elim, _≢_, Ne·symm}
-use mathlib.Core.Bool.{Bool, true, false, not, _&&_, _||_, cond, or-assoc, or-false}
+use mathlib.Core.Bool.{Bool, true, false, not, _&&_, _||_, cond}
 use mathlib.Core.List.{List, map, flatten}
 use Prim.Native.Nat.{ℕ, _+_, _*_, _/_, _%_, _≤_, _<_}
 use native.Mathlib.Nat.{mod-lt, div-add-mod}
@@ -12,22 +12,20 @@ use lib.ListN.{length}
 use borrow.Author.Tests.{eqb-true, eq-eqb, eqb-false, ne-eqb, not-true, ltb-true}
 use Rattle.rules.specs.Below.{any, all, count, gather, tabulate}
 use Rattle.rules.specs.Shape.{triangleTable, edgeTable, vertices as vertexTable}
-use Rattle.rules.specs.Table.{Table, holds}
+use Rattle.rules.specs.Table.{Table}
 use Rattle.rules.specs.Skin.{onSkin, different, holdsThree, farEdge}
-use Rattle.rules.specs.Proposals.{insideIn}
 use Rattle.rules.specs.Laws.Truth.{true-or-false, not-both, is-false, same-test, and-first, and-second, and-both, or-either, or-first, or-second}
-use Rattle.rules.specs.Laws.Below.{any-more, any-here, any-some, none-any, all-each}
+use Rattle.rules.specs.Laws.Below.{any-here, any-some, all-each}
 use Rattle.rules.specs.Laws.Count.{ExactlyOne, count-one}
 use Rattle.rules.specs.Laws.Places.{row-of, within-row, row-below, place-below}
 use Rattle.rules.specs.Laws.Shape.{fourth-corner}
-use Rattle.rules.specs.Reading.Rows.{Rising, one-corner, Holds, holds-reads}
+use Rattle.rules.specs.Reading.Rows.{Rising, one-corner, Holds}
+use Rattle.rules.specs.Reading.Closed.{Closed}
 use Rattle.rules.specs.Reading.Skin.{Different, different-reads, TriangleIds, three-reads, triangle-of, skin-far}
 use Rattle.table.specs.declared.faces.Face.{Face}
 use Rattle.table.specs.Rows.{tableIn, rowsIn}
 use Rattle.table.specs.Faces.{faceCorners, cornerOf, faceOf}
 use Rattle.table.specs.Ground.{Ground}
-use Rattle.skin.specs.Between.{between, between-skin}
-use Rattle.rings.specs.Ends.{Ends, Kept, Roomy, joined, kept-same, kept-joined, degree-below}
 use Rattle.rules.specs.Job.{mostIds}
 
 -- ---- the ids of a triangle
@@ -57,20 +55,20 @@ face-in f u (inl e) = or-first (eqb (f .c) u) (or-first (eqb (f .b) u) (eq-eqb (
 face-in f u (inr (inl e)) = or-first (eqb (f .c) u) (or-second (eqb (f .a) u) (eq-eqb (f .b) u e))
 face-in f u (inr (inr e)) = or-second (eqb (f .a) u || eqb (f .b) u) (eq-eqb (f .c) u e)
 
-first-in : (f : Face) (v : ℕ) → InFace f (firstEnd f v)
+pub first-in : (f : Face) (v : ℕ) → InFace f (firstEnd f v)
 unfolding firstEnd InFace
 first-in f v = ⊎-elim (λ on. rw on (inr (inl refl))) (λ off. rw off (inl refl)) (true-or-false (eqb (f .a) v))
 
-second-in : (f : Face) (v : ℕ) → InFace f (secondEnd f v)
+pub second-in : (f : Face) (v : ℕ) → InFace f (secondEnd f v)
 unfolding secondEnd InFace
 second-in f v = ⊎-elim (λ on. rw on (inr (inl refl))) (λ off. rw off (inr (inr refl))) (true-or-false (eqb (f .c) v))
 
 -- the three ids of a triangle that holds v are v and the two ends
-record TwoEnds (f : Face) (v x y : ℕ) : Type 0 where
-  ends-differ : Different v x y
-  only : (u : ℕ) → InFace f u → (u ≡ v) ⊎ ((u ≡ x) ⊎ (u ≡ y))
+pub record TwoEnds (f : Face) (v x y : ℕ) : Type 0 where
+  pub ends-differ : Different v x y
+  pub only : (u : ℕ) → InFace f u → (u ≡ v) ⊎ ((u ≡ x) ⊎ (u ≡ y))
 
-split : (f : Face) (v : ℕ) → f .a < f .b → f .b < f .c → InFace f v → TwoEnds f v (firstEnd f v) (secondEnd f v)
+pub split : (f : Face) (v : ℕ) → f .a < f .b → f .b < f .c → InFace f v → TwoEnds f v (firstEnd f v) (secondEnd f v)
 unfolding InFace firstEnd secondEnd
 split f v ab bc (inl e) =
     rw (eq-eqb (f .a) v e, ne-eqb (f .c) v (λ (x : f .c ≡ v). omega arith)) (record {
@@ -89,7 +87,7 @@ split f v ab bc (inr (inr e)) =
     })
 
 -- of two different ids beside v one is the first end and one the second
-beside : {f : Face} {v x y : ℕ} → TwoEnds f v x y → InFace f x → InFace f y → (a b : ℕ)
+pub beside : {f : Face} {v x y : ℕ} → TwoEnds f v x y → InFace f x → InFace f y → (a b : ℕ)
     → (inFace f a && inFace f b && different v a b) ≡ ((eqb a x && eqb b y) || (eqb a y && eqb b x))
 beside {f} {v} {x} {y} s ix iy a b =
     same-test (inFace f a && inFace f b && different v a b) ((eqb a x && eqb b y) || (eqb a y && eqb b x)) (λ e.
@@ -151,7 +149,7 @@ unfolding all cornerOf faceCorners triangleTable edgeTable vertexTable tabulate 
 rises-test = refl
 
 -- the ids rise within a triangle
-face-rises : (t : Table) → t .corners ≡ 4 → {r : ℕ} → Rising t r → (c : ℕ) → c < 4 → (faceOf t r c .a < faceOf t r c .b) × (faceOf t r c .b < faceOf t r c .c)
+pub face-rises : (t : Table) → t .corners ≡ 4 → {r : ℕ} → Rising t r → (c : ℕ) → c < 4 → (faceOf t r c .a < faceOf t r c .b) × (faceOf t r c .b < faceOf t r c .c)
 unfolding faceOf
 face-rises t four up c lc =
     let e = all-each 4 (λ c. ltb (cornerOf c 0) (cornerOf c 1) && ltb (cornerOf c 1) (cornerOf c 2)) rises-test c lc in (
@@ -165,13 +163,14 @@ face-rises t four up c lc =
 unfoldable pub shown : Table → (ℕ → Bool) → ℕ → ℕ → ℕ → Bool
 shown t inside v r c = inside r && (onSkin t inside r c && inFace (faceOf t r c) v)
 
+-- at place p
+abbrev pub shownAt : Table → (ℕ → Bool) → ℕ → ℕ → Bool
+shownAt t inside v p = shown t inside v (p / 4) (p % 4)
+
+-- and a b is the edge opposite v
 unfoldable pub farAt : Table → (ℕ → Bool) → ℕ → ℕ → ℕ → ℕ → Bool
 farAt t inside v p a b =
-    shown t inside v (p / 4) (p % 4) && (inFace (faceOf t (p / 4) (p % 4)) a && inFace (faceOf t (p / 4) (p % 4)) b && different v a b)
-
--- the far edges of v in the places before p
-unfoldable pub gathered : Table → (ℕ → Bool) → ℕ → ℕ → ℕ → ℕ → Bool
-gathered t inside v p a b = any p (λ q. farAt t inside v q a b)
+    shownAt t inside v p && (inFace (faceOf t (p / 4) (p % 4)) a && inFace (faceOf t (p / 4) (p % 4)) b && different v a b)
 
 record FarIn (t : Table) (inside : ℕ → Bool) (v r c a b : ℕ) : Type 0 where
   is-inside : inside r ≡ true
@@ -179,7 +178,7 @@ record FarIn (t : Table) (inside : ℕ → Bool) (v r c a b : ℕ) : Type 0 wher
   differ : Different v a b
   ids : TriangleIds t r c v a b
 
-differ-far : (t : Table) (inside : ℕ → Bool) (v a b : ℕ) → farEdge t inside v a b ≡ true → different v a b ≡ true
+pub differ-far : (t : Table) (inside : ℕ → Bool) (v a b : ℕ) → farEdge t inside v a b ≡ true → different v a b ≡ true
 unfolding farEdge
 differ-far t inside v a b e = and-first (different v a b) (eqb (count (t .rows) (λ s. inside s && holdsThree t v a b s)) 1) e
 
@@ -249,7 +248,7 @@ module _ (t : Table) (four : t .corners ≡ 4) (inside : ℕ → Bool) (v : ℕ)
 
   module _ (up : (r : ℕ) → r < t .rows → Rising t r) where
     -- a far edge is met at one place
-    met-once : (p q a b : ℕ) → p < 4 * t .rows → q < 4 * t .rows → farAt t inside v p a b ≡ true → farAt t inside v q a b ≡ true → p ≡ q
+    pub met-once : (p q a b : ℕ) → p < 4 * t .rows → q < 4 * t .rows → farAt t inside v p a b ≡ true → farAt t inside v q a b ≡ true → p ≡ q
     met-once p q a b lp lq ep eq = omega (arith, div-add-mod p 4, div-add-mod q 4, row, corner)
       where
         row : p / 4 ≡ q / 4
@@ -288,10 +287,9 @@ module _ (t : Table) (four : t .corners ≡ 4) (inside : ℕ → Bool) (v : ℕ)
               stays (x .ids .third) (y .ids .third) (x .ids .third-below) (y .ids .third-below) (x .ids .third-is) (y .ids .third-is) (y .ids .third-stays),
             ))
 
-    -- once all places are done, the far edges are gathered
-    all-gathered : (a b : ℕ) → gathered t inside v (4 * t .rows) a b ≡ farEdge t inside v a b
-    unfolding gathered
-    all-gathered a b =
+    -- the far edges are those met
+    pub all-met : (a b : ℕ) → any (4 * t .rows) (λ q. farAt t inside v q a b) ≡ farEdge t inside v a b
+    all-met a b =
         same-test (any (4 * t .rows) (λ q. farAt t inside v q a b)) (farEdge t inside v a b)
         (λ e. let (p, _, f) = any-some (4 * t .rows) (λ q. farAt t inside v q a b) e in met-far p a b f) found
       where
@@ -309,134 +307,11 @@ module _ (t : Table) (four : t .corners ≡ 4) (inside : ℕ → Bool) (v : ℕ)
               ids = ids;
             }))
 
--- ---- one place after the other
+-- ---- what the ring test rests on
 
 -- a closed table with its neighbour list, no more ids than the limit, and a mark for each row
 pub record Marked (bytes neighbours marks : List ℕ) (ids : ℕ) : Type 0 where
   pub ground : Ground bytes neighbours ids
+  pub closed : Closed (tableIn bytes) ids
   pub few : ids ≤ mostIds
   pub each : length marks ≡ rowsIn bytes
-
--- the far edges of v in the places before p
-abbrev pub Gathered : List ℕ → List ℕ → ℕ → ℕ → ℕ → Ends → Type 0
-Gathered bytes marks ids v p e = Kept ids (gathered (tableIn bytes) (insideIn marks) v p) e
-
-module _ {bytes neighbours marks : List ℕ} {ids : ℕ} (m : Marked bytes neighbours marks ids) (v : ℕ) where
-  up : (r : ℕ) → r < rowsIn bytes → Rising (tableIn bytes) r
-  up = m .ground .paired .rising
-
-  pub gather-begins : {e : Ends} → Kept ids (λ _ _. false) e → Gathered bytes marks ids v 0 e
-  unfolding gathered any
-  gather-begins k = k
-
-  pub gather-ends : {p : ℕ} {e : Ends} → Gathered bytes marks ids v p e → p ≡ 4 * rowsIn bytes → Kept ids (farEdge (tableIn bytes) (insideIn marks) v) e
-  gather-ends k q = kept-same (λ a b _ _. rw q (all-gathered (tableIn bytes) refl (insideIn marks) v up a b)) k
-
-  module _ (r c : ℕ) (lr : r < rowsIn bytes) (lc : c < 4) {e : Ends} (k : Gathered bytes marks ids v (4 * r + c) e) where
-    before-now : (a b : ℕ) → gathered (tableIn bytes) (insideIn marks) v (4 * r + c + 1) a b
-        ≡ (gathered (tableIn bytes) (insideIn marks) v (4 * r + c) a b || (shown (tableIn bytes) (insideIn marks) v r c && (inFace (faceOf (tableIn bytes) r c) a && inFace (faceOf (tableIn bytes) r c) b && different v a b)))
-    unfolding gathered farAt
-    before-now a b = any-more (4 * r + c) (λ q. farAt (tableIn bytes) (insideIn marks) v q a b) ∙ rw (row-of {m = 4} (lit< tt) r c lc, within-row {m = 4} (lit< tt) r c lc)
-
-    -- nothing is shown
-    gather-passes : shown (tableIn bytes) (insideIn marks) v r c ≡ false → Gathered bytes marks ids v (4 * r + c + 1) e
-    gather-passes off = kept-same (λ a b _ _. sym (before-now a b ∙ rw off (or-false (gathered (tableIn bytes) (insideIn marks) v (4 * r + c) a b)))) k
-
-    end-below : (u : ℕ) → InFace (faceOf (tableIn bytes) r c) u → u < ids
-    end-below u i = let (j, lj, _, e) = face-corner (tableIn bytes) r c u lc i in rw (← e) (m .ground .paired .below r lr j lj)
-
-    shown-far : (a b : ℕ) → shown (tableIn bytes) (insideIn marks) v r c ≡ true → (inFace (faceOf (tableIn bytes) r c) a && inFace (faceOf (tableIn bytes) r c) b && different v a b) ≡ true
-        → farAt (tableIn bytes) (insideIn marks) v (4 * r + c) a b ≡ true
-    unfolding farAt
-    shown-far a b on beside-v = rw (row-of {m = 4} (lit< tt) r c lc, within-row {m = 4} (lit< tt) r c lc) (and-both on beside-v)
-
-    -- what is met here was not met before
-    not-before : (a b : ℕ) → farAt (tableIn bytes) (insideIn marks) v (4 * r + c) a b ≡ true → gathered (tableIn bytes) (insideIn marks) v (4 * r + c) a b ≡ false
-    unfolding gathered
-    not-before a b f =
-        none-any (4 * r + c) (λ q. farAt (tableIn bytes) (insideIn marks) v q a b) (λ q l. is-false (farAt (tableIn bytes) (insideIn marks) v q a b) (λ g.
-        omega (arith, met-once (tableIn bytes) refl (insideIn marks) v up q (4 * r + c) a b (omega (arith, lr, lc, l)) (omega (arith, lr, lc)) g f)))
-
-    module _ {f : Face} (ef : f ≡ faceOf (tableIn bytes) r c) {x y : ℕ} (fx : x ≡ firstEnd f v) (fy : y ≡ secondEnd f v) where
-      ex : x ≡ firstEnd (faceOf (tableIn bytes) r c) v
-      ex = fx ∙ ap (λ (g : Face). firstEnd g v) ef
-
-      ey : y ≡ secondEnd (faceOf (tableIn bytes) r c) v
-      ey = fy ∙ ap (λ (g : Face). secondEnd g v) ef
-
-      x-in : InFace (faceOf (tableIn bytes) r c) x
-      x-in = rw ex (first-in (faceOf (tableIn bytes) r c) v)
-
-      y-in : InFace (faceOf (tableIn bytes) r c) y
-      y-in = rw ey (second-in (faceOf (tableIn bytes) r c) v)
-
-      -- the ends have room, whether they are wanted or not
-      pub gather-room : Roomy x y (e .degree)
-      gather-room =
-          let lx = end-below x x-in in
-          let ly = end-below y y-in in
-          (omega (arith, m .few, lx), omega (arith, m .few, ly), degree-below (m .few) k x y lx ly, degree-below (m .few) k y x ly lx, k .degrees)
-
-      gather-shows : shown (tableIn bytes) (insideIn marks) v r c ≡ true → Gathered bytes marks ids v (4 * r + c + 1) (joined x y e)
-      unfolding shown
-      gather-shows on =
-          kept-same (λ a b _ _. sym (before-now a b ∙ rw (on, beside s x-in y-in a b) (sym (or-assoc (gathered (tableIn bytes) (insideIn marks) v (4 * r + c) a b) (eqb a x && eqb b y) (eqb a y && eqb b x)))))
-          (kept-joined (m .few) k x y (end-below x x-in) (end-below y y-in) (s .ends-differ .2) (not-before x y (here x y (or-first {a = eqb x x && eqb y y} (eqb x y && eqb y x) (rw (eq-eqb x x refl, eq-eqb y y refl)))))
-          (not-before y x (here y x (or-second (eqb y x && eqb x y) {b = eqb y y && eqb x x} (rw (eq-eqb x x refl, eq-eqb y y refl))))))
-        where
-          s : TwoEnds (faceOf (tableIn bytes) r c) v x y
-          s = rw (ex, ey) (split (faceOf (tableIn bytes) r c) v (rising-face .0) (rising-face .1) (in-face (faceOf (tableIn bytes) r c) v (and-second (onSkin (tableIn bytes) (insideIn marks) r c) (inFace (faceOf (tableIn bytes) r c) v) (and-second (insideIn marks r) (onSkin (tableIn bytes) (insideIn marks) r c && inFace (faceOf (tableIn bytes) r c) v) on))))
-            where
-              rising-face : ((faceOf (tableIn bytes) r c) .a < (faceOf (tableIn bytes) r c) .b) × ((faceOf (tableIn bytes) r c) .b < (faceOf (tableIn bytes) r c) .c)
-              rising-face = face-rises (tableIn bytes) refl (up r lr) c lc
-
-          here : (a b : ℕ) → ((eqb a x && eqb b y) || (eqb a y && eqb b x)) ≡ true → farAt (tableIn bytes) (insideIn marks) v (4 * r + c) a b ≡ true
-          here a b e = shown-far a b on (beside s x-in y-in a b ∙ e)
-
-      shown-by : insideIn marks r ≡ true → {skin held : Bool} → skin ≡ between neighbours marks r c → held ≡ inFace f v → (skin && held) ≡ shown (tableIn bytes) (insideIn marks) v r c
-      unfolding shown
-      shown-by on es eh = rw (on, es, between-skin (m .ground) r c lr lc marks, eh, ef)
-
-      pub gather-turn : insideIn marks r ≡ true → {skin held : Bool} → skin ≡ between neighbours marks r c → held ≡ inFace f v
-          → {e′ : Ends} → e′ ≡ cond (skin && held) (joined x y e) e → Gathered bytes marks ids v (4 * r + c + 1) e′
-      gather-turn inner {skin} {held} es eh {e′} ee =
-          ⊎-elim (λ t. subst (Gathered bytes marks ids v (4 * r + c + 1)) (sym (ee ∙ ap (λ (b : Bool). cond b (joined x y e) e) t)) (gather-shows (sym is ∙ t)))
-          (λ off. subst (Gathered bytes marks ids v (4 * r + c + 1)) (sym (ee ∙ ap (λ (b : Bool). cond b (joined x y e) e) off)) (gather-passes (sym is ∙ off))) (true-or-false (skin && held))
-        where
-          is : (skin && held) ≡ shown (tableIn bytes) (insideIn marks) v r c
-          is = shown-by inner es eh
-
-  -- a row that is outside or does not hold v shows nothing
-  not-shown : (r c : ℕ) → c < 4 → (insideIn marks r ≡ false) ⊎ (holds (tableIn bytes) r v ≡ false) → shown (tableIn bytes) (insideIn marks) v r c ≡ false
-  unfolding shown
-  not-shown r c lc why =
-      is-false (insideIn marks r && (onSkin (tableIn bytes) (insideIn marks) r c && inFace (faceOf (tableIn bytes) r c) v)) (λ e.
-      ⊎-elim (λ off. not-both (and-first (insideIn marks r) (onSkin (tableIn bytes) (insideIn marks) r c && inFace (faceOf (tableIn bytes) r c) v) e) off) (λ off.
-      let (k, lk, _, is) = face-corner (tableIn bytes) r c v lc (in-face (faceOf (tableIn bytes) r c) v
-      (and-second (onSkin (tableIn bytes) (insideIn marks) r c) (inFace (faceOf (tableIn bytes) r c) v) (and-second (insideIn marks r) (onSkin (tableIn bytes) (insideIn marks) r c && inFace (faceOf (tableIn bytes) r c) v) e))) in
-      not-both (holds-reads (tableIn bytes) r v .1 (k, lk, is)) off) why)
-
-  pub gather-skips : (r : ℕ) → r < rowsIn bytes → (insideIn marks r ≡ false) ⊎ (holds (tableIn bytes) r v ≡ false) → {e : Ends}
-      → Gathered bytes marks ids v (4 * r) e → Gathered bytes marks ids v (4 * (r + 1)) e
-  gather-skips r l why {e} k = subst at last (pass 3 (lit< tt) (subst at three (pass 2 (lit< tt) (subst at two (pass 1 (lit< tt) (subst at one (pass 0 (lit< tt) (subst at none k))))))))
-    where
-      at : ℕ → Type 0
-      at p = Gathered bytes marks ids v p e
-
-      pass : (c : ℕ) → c < 4 → at (4 * r + c) → at (4 * r + c + 1)
-      pass c lc k = gather-passes r c l lc k (not-shown r c lc why)
-
-      none : 4 * r ≡ 4 * r + 0
-      none = omega arith
-
-      one : 4 * r + 0 + 1 ≡ 4 * r + 1
-      one = omega arith
-
-      two : 4 * r + 1 + 1 ≡ 4 * r + 2
-      two = omega arith
-
-      three : 4 * r + 2 + 1 ≡ 4 * r + 3
-      three = omega arith
-
-      last : 4 * r + 3 + 1 ≡ 4 * (r + 1)
-      last = omega arith

@@ -1,9 +1,13 @@
 -- What the code of `rings` means beyond `rules`, and the laws by which it is proved:
---     Ends      far edges kept by their ends
---     Rings     one ring, decided from the ends
---     Far       the far edges of a vertex, gathered place by place
---     Vertices  the vertices on the skin, flagged place by place
-pub mod Ends
-pub mod Rings
+--     Far       the far edges of a vertex, by the places of its skin triangles
+--     Ends      their ends: twice as many as the skin triangles
+--     Tallies   the skin triangles at a vertex, counted place by place
+--     Sides     a skin triangle is between two rows: from one to the next about a common edge
+--     Ring      edges followed from end to end
+--     Follow    the ring of a vertex, followed so
 pub mod Far
-pub mod Vertices
+pub mod Ends
+pub mod Tallies
+pub mod Sides
+pub mod Ring
+pub mod Follow

@@ -1,97 +1,185 @@
-// One ring, decided from the ends of the far edges.
-use floods::visit;
+// The ring of a vertex, followed through the neighbour list.
+use round::Stop;
+use round::onward;
+use round::turn;
+use table::across_at;
+use table::faces::Face;
+use table::faces::face_of;
 use values::choose;
-use values::from_u16;
 ghost use mathlib.Core.Path.{_≡_};
-ghost use Prim.Native.Nat.{ℕ, _≤_, _<_};
-ghost use lib.ListN.{length, getD};
-ghost use Rattle.rules.specs.Below.{all, count};
-ghost use Rattle.rules.specs.Laws.Highest.{highest};
-ghost use Rattle.rings.specs.Ends.{ends};
-ghost use Rattle.rings.specs.Rings.{used, noneOrTwo, otherEnd, EvenFrom, Reached, SomeEdges, Decided};
+ghost use Prim.Native.Nat.{_*_};
+ghost use Rattle.rules.specs.Below.{count};
+ghost use Rattle.rules.specs.Skin.{oneRing};
+ghost use Rattle.rules.specs.Proposals.{insideIn};
+ghost use Rattle.table.specs.Rows.{tableIn, rowsIn};
+ghost use Rattle.table.specs.Faces.{faceCorners};
+ghost use Rattle.round.specs.Edge.{Turned};
+ghost use Rattle.rings.specs.Far.{firstEnd, shownAt, Marked};
+ghost use Rattle.rings.specs.Tallies.{Tallied};
+ghost use Rattle.rings.specs.Follow.{SkinEdge, RingsBelow, twoFar, Landed};
 
-struct Degrees {
-    // Each id has no far edge or two.
-    even: bool,
-    // How many ids have some, and the highest of them.
-    count: usize,
+// The skin triangle that a turn comes to: the rows on its two sides and its third id. `two` if the edge is in no further skin triangle.
+struct Landing {
+    two: bool,
+    inner: usize,
+    outer: usize,
     end: usize,
 }
 
-fn tally(degree: &[u16; 1024], ids: usize) -> Degrees
-    requires { ⌜ ids ≤ 1024 ⌝ }
-    ensures { λ r. ⌜ (r .even ≡ all ids (noneOrTwo (now (degree .entry)))) × (r .count ≡ count ids (used (now (degree .entry)))) × (r .end ≡ highest ids (used (now (degree .entry)))) ⌝ }
-{
-    let mut even = true;
-    let mut count = 0;
-    let mut end = 0;
-    let mut id = 0;
-    while id < ids {
-        let d = degree[id];
-        even = even & ((d == 0) | (d == 2));
-        count += choose(d != 0, 1, 0);
-        end = choose(d != 0, id, end);
-        id += 1;
-    }
-    Degrees { even, count, end }
-}
-
-// One of the two other ends of x.
-fn other_end(last: &[u16; 1024], before: &[u16; 1024], x: usize, way: usize) -> usize
-    requires { ⌜ x < 1024 ⌝ }
-    ensures { λ r. ⌜ r ≡ otherEnd (now (last .entry)) (now (before .entry)) x way ⌝ }
-{
-    choose(way == 0, from_u16(last[x]), from_u16(before[x]))
-}
-
-// How many ends are reached from one: as many as there are, exactly if they are connected.
-fn reach(
+// The end lies on two far edges of the vertex: about their common edge one comes through the outside rows to the skin triangle that one comes
+// to through the inside rows. For an end below `low` the ring of that end has told it.
+fn is_two(
+    rows: &[u8],
+    neighbours: &[u32],
+    marks: &[u8],
     ids: usize,
-    degree: &[u16; 1024],
-    last: &[u16; 1024],
-    before: &[u16; 1024],
-    start: usize,
-    stamp: &mut [u16; 2048],
-    queue: &mut [u16; 2048],
-) -> usize
-    requires { ⌜ EvenFrom ids (ends (now degree) (now last) (now before)) start
-        × (length (now stamp) ≡ 2048) × (length (now queue) ≡ 2048) × ((y : ℕ) → y < ids → getD (now stamp) y 0 < 1) ⌝ }
-    ensures { λ r. ⌜ Reached ids (ends (now (degree .entry)) (now (last .entry)) (now (before .entry))) start r ⌝ }
-{
-    stamp[start] = 1;
-    queue[0] = start as u16;
-    let mut tail = 1;
-    let mut turn = 0;
-    while turn < 2 * tail {
-        let x = from_u16(queue[turn / 2]);
-        let y = other_end(last, before, x, turn % 2);
-        let fresh = stamp[y] != 1;
-        tail = visit(fresh, y, 1, stamp, queue, tail);
-        turn += 1;
-    }
-    tail
-}
-
-// The far edges that are kept form one ring.
-pub(crate) fn is_ring(
-    ids: usize,
-    degree: &[u16; 1024],
-    last: &[u16; 1024],
-    before: &[u16; 1024],
+    low: usize,
+    vertex: usize,
+    end: usize,
+    inner: usize,
+    outer: usize,
+    within: Stop,
 ) -> bool
-    requires { ⌜ SomeEdges ids (ends (now degree) (now last) (now before)) ⌝ }
-    ensures { λ r. ⌜ Decided ids (ends (now (degree .entry)) (now (last .entry)) (now (before .entry))) r ⌝ }
+    requires { ⌜ Marked (now rows) (now neighbours) (now marks) ids × RingsBelow (tableIn (now rows)) (insideIn (now marks)) ids low
+        × SkinEdge (tableIn (now rows)) (insideIn (now marks)) vertex end inner outer
+        × Turned (tableIn (now rows)) (insideIn (now marks)) vertex end outer inner (within .at) (within .next) ⌝ }
+    ensures { λ r. ⌜ r ≡ twoFar (tableIn (now (rows .entry))) (insideIn (now (marks .entry))) ids vertex end ⌝ }
 {
-    let t = tally(degree, ids);
-    if !t.even {
-        return false;
-    }
-    let ends = t.count;
-    if ends == 0 {
+    if end < low {
         return true;
     }
-    let mut stamp = [0u16; 2048];
-    let mut queue = [0u16; 2048];
-    let reached = reach(ids, degree, last, before, t.end, &mut stamp, &mut queue);
-    reached == ends
+    let without = turn(rows, neighbours, marks, vertex, end, inner, outer);
+    (without.next == within.at) & (without.at == within.next)
+}
+
+// From the skin triangle between two rows about the edge of the vertex and an end to the next one, through the inside rows.
+fn turn_at(
+    rows: &[u8],
+    neighbours: &[u32],
+    marks: &[u8],
+    ids: usize,
+    low: usize,
+    vertex: usize,
+    end: usize,
+    inner: usize,
+    outer: usize,
+) -> Landing
+    requires { ⌜ Marked (now rows) (now neighbours) (now marks) ids × RingsBelow (tableIn (now rows)) (insideIn (now marks)) ids low
+        × SkinEdge (tableIn (now rows)) (insideIn (now marks)) vertex end inner outer ⌝ }
+    ensures { λ r. ⌜ Landed (tableIn (now (rows .entry))) (insideIn (now (marks .entry))) ids vertex end inner outer (r .two) (r .inner) (r .outer) (r .end) ⌝ }
+{
+    let to = turn(rows, neighbours, marks, vertex, end, outer, inner);
+    let two = is_two(
+        rows,
+        neighbours,
+        marks,
+        ids,
+        low,
+        vertex,
+        end,
+        inner,
+        outer,
+        to,
+    );
+    let way = onward(rows, neighbours, vertex, end, to.next, to.at);
+    Landing {
+        two,
+        inner: to.at,
+        outer: to.next,
+        end: way.id,
+    }
+}
+
+// From a skin triangle of the vertex round to its first end. The far edges form one ring exactly if each end lies on two of them and as many
+// ends are turned at as the vertex has skin triangles.
+fn follow(
+    rows: &[u8],
+    neighbours: &[u32],
+    marks: &[u8],
+    ids: usize,
+    low: usize,
+    vertex: usize,
+    first: usize,
+    inner: usize,
+    outer: usize,
+    total: usize,
+) -> bool
+    requires { ⌜ Marked (now rows) (now neighbours) (now marks) ids × RingsBelow (tableIn (now rows)) (insideIn (now marks)) ids low
+        × SkinEdge (tableIn (now rows)) (insideIn (now marks)) vertex first inner outer
+        × (total ≡ count (4 * rowsIn (now rows)) (shownAt (tableIn (now rows)) (insideIn (now marks)) vertex)) ⌝ }
+    ensures { λ r. ⌜ r ≡ oneRing (tableIn (now (rows .entry))) (insideIn (now (marks .entry))) ids vertex ⌝ }
+{
+    let start = turn_at(
+        rows,
+        neighbours,
+        marks,
+        ids,
+        low,
+        vertex,
+        first,
+        inner,
+        outer,
+    );
+    if !start.two {
+        return false;
+    }
+    let mut x = start.inner;
+    let mut y = start.outer;
+    let mut end = start.end;
+    let mut met = 1;
+    while end != first {
+        let next = turn_at(rows, neighbours, marks, ids, low, vertex, end, x, y);
+        if !next.two {
+            return false;
+        }
+        x = next.inner;
+        y = next.outer;
+        end = next.end;
+        met += 1;
+    }
+    met == total
+}
+
+// One of the two ids of a triangle beside the vertex.
+fn first_end(f: Face, vertex: usize) -> usize
+    ensures { λ r. ⌜ r ≡ firstEnd f vertex ⌝ }
+{
+    choose(f.a == vertex, f.b, f.a)
+}
+
+// The far edges of a vertex form one ring. The number of its skin triangles and the last of their places are known, and that the vertices below
+// `low` have one.
+pub(crate) fn is_ring(
+    rows: &[u8],
+    neighbours: &[u32],
+    marks: &[u8],
+    corners: &[u8; 42],
+    ids: usize,
+    low: usize,
+    vertex: usize,
+    total: usize,
+    place: usize,
+) -> bool
+    requires { ⌜ Marked (now rows) (now neighbours) (now marks) ids × RingsBelow (tableIn (now rows)) (insideIn (now marks)) ids low × (now corners ≡ faceCorners) × Tallied (now rows) (now marks) vertex (4 * rowsIn (now rows)) total place ⌝ }
+    ensures { λ r. ⌜ r ≡ oneRing (tableIn (now (rows .entry))) (insideIn (now (marks .entry))) ids vertex ⌝ }
+{
+    if total == 0 {
+        return true;
+    }
+    let row = place / 4;
+    let corner = place % 4;
+    let first = first_end(face_of(rows, corners, row, corner), vertex);
+    let outer = across_at(neighbours, row, corner);
+    follow(
+        rows,
+        neighbours,
+        marks,
+        ids,
+        low,
+        vertex,
+        first,
+        row,
+        outer,
+        total,
+    )
 }

@@ -76,10 +76,15 @@ module _ {Near : ℕ → ℕ → Type 0} {On : ℕ → Type 0} {first second : �
       go (inr (inl e)) = going-once (subst (λ k. Going Near On first second k at y) e (s .going)) (s′ .going)
       go (inr (inr l)) = absurd (no-further s′ (walk-passed (s .going .walk) (s′ .k) l))
 
+-- where it is, is `On`
+pub walk-on : {Near : ℕ → ℕ → Type 0} {On : ℕ → Type 0} {first second k from at : ℕ} → Walk Near On first second k from at → On second → On at
+walk-on {On = On} (begins z f s) on = subst On (sym s) on
+walk-on (goes w n a o m) on = o
+
 -- ---- one number more
 
 -- p and y
-abbrev with : (ℕ → Bool) → ℕ → ℕ → Bool
+abbrev pub with : (ℕ → Bool) → ℕ → ℕ → Bool
 with p y z = p z || eqb z y
 
 with-new : (p : ℕ → Bool) (y : ℕ) → with p y y ≡ true
@@ -88,7 +93,7 @@ with-new p y = or-second (p y) (eq-eqb y y refl)
 with-old : (p : ℕ → Bool) (y z : ℕ) → p z ≡ true → with p y z ≡ true
 with-old p y z t = or-first (eqb z y) t
 
-with-either : (p : ℕ → Bool) (y z : ℕ) → with p y z ≡ true → (p z ≡ true) ⊎ (z ≡ y)
+pub with-either : (p : ℕ → Bool) (y z : ℕ) → with p y z ≡ true → (p z ≡ true) ⊎ (z ≡ y)
 with-either p y z t = ⊎-elim inl (λ e. inr (eqb-true z y e)) (or-either (p z) (eqb z y) t)
 
 count-with : (n : ℕ) (p : ℕ → Bool) (y : ℕ) → y < n → p y ≡ false → count n (with p y) ≡ count n p + 1
@@ -99,33 +104,37 @@ count-with n p y l off =
     (λ t. is-without (with p y) y z (with-old p y z t) (λ (e : z ≡ y). not-both t (ap p e ∙ off)))))
 
 -- one of two
-abbrev pair : ℕ → ℕ → ℕ → Bool
+abbrev pub pair : ℕ → ℕ → ℕ → Bool
 pair a b z = eqb z a || eqb z b
 
-pair-either : (a b z : ℕ) → pair a b z ≡ true → (z ≡ a) ⊎ (z ≡ b)
+pub pair-either : (a b z : ℕ) → pair a b z ≡ true → (z ≡ a) ⊎ (z ≡ b)
 pair-either a b z t = ⊎-elim (λ e. inl (eqb-true z a e)) (λ e. inr (eqb-true z b e)) (or-either (eqb z a) (eqb z b) t)
 
 -- ---- what a walk has seen
 
 -- The walk went from `first` to `second` and on, and in k steps came on from `from` to `at`.
-record Trail (n : ℕ) (Near : ℕ → ℕ → Type 0) (first second from at k : ℕ) (seen : ℕ → Bool) : Type 0 where
-  counted : count n seen ≡ k + 2
-  start : Near first second
-  first-seen : seen first ≡ true
-  second-seen : seen second ≡ true
-  from-seen : seen from ≡ true
-  at-seen : seen at ≡ true
+pub record Trail (n : ℕ) (Near : ℕ → ℕ → Type 0) (first second from at k : ℕ) (seen : ℕ → Bool) : Type 0 where
+  pub counted : count n seen ≡ k + 2
+  pub start : Near first second
+  pub first-seen : seen first ≡ true
+  pub second-seen : seen second ≡ true
+  pub from-seen : seen from ≡ true
+  pub at-seen : seen at ≡ true
   -- what is near a number that was seen was seen, but for the two ends
-  inner : (z y : ℕ) → seen z ≡ true → z ≢ first → z ≢ at → Near z y → seen y ≡ true
+  pub inner : (z y : ℕ) → seen z ≡ true → z ≢ first → z ≢ at → Near z y → seen y ≡ true
   -- of what was seen none but `from` and perhaps the first is near to where the walk is now
-  lone : (z : ℕ) → seen z ≡ true → z ≢ first → Near z at → z ≡ from
-  once : at ≡ second → from ≡ first
+  pub lone : (z : ℕ) → seen z ≡ true → z ≢ first → Near z at → z ≡ from
+  pub once : at ≡ second → from ≡ first
+
+-- no longer than there are numbers
+pub trail-few : {n : ℕ} {Near : ℕ → ℕ → Type 0} {first second from at k : ℕ} {seen : ℕ → Bool} → Trail n Near first second from at k seen → k + 2 ≤ n
+trail-few {n} {seen = seen} w = omega (arith, w .counted, count-not n seen)
 
 -- with what was seen, all of it `On` but perhaps the first
-record Behind (n : ℕ) (Near : ℕ → ℕ → Type 0) (On : ℕ → Type 0) (first second from at k : ℕ) : Type 0 where
-  seen : ℕ → Bool
-  trail : Trail n Near first second from at k seen
-  all-on : (z : ℕ) → seen z ≡ true → z ≢ first → On z
+pub record Behind (n : ℕ) (Near : ℕ → ℕ → Type 0) (On : ℕ → Type 0) (first second from at k : ℕ) : Type 0 where
+  pub seen : ℕ → Bool
+  pub trail : Trail n Near first second from at k seen
+  pub all-on : (z : ℕ) → seen z ≡ true → z ≢ first → On z
 
 module _ {n : ℕ} {Near : ℕ → ℕ → Type 0} (back : (x y : ℕ) → Near x y → Near y x) (apart : (x y : ℕ) → Near x y → x ≢ y) (below : (x y : ℕ) → Near x y → y < n) where
   pub next-of : {from at y : ℕ} → ExactlyTwo n (Near at) → Near at from → Near at y → y ≢ from → Next Near from at y
@@ -133,7 +142,7 @@ module _ {n : ℕ} {Near : ℕ → ℕ → Type 0} (back : (x y : ℕ) → Near 
       let o = the-other two from (below at from p) p in
       record { near = q; on = ne; only = λ u r d. o .only u (below at u r) r d ∙ sym (o .only y (below at y q) q ne) }
 
-  trail-begins : (first second : ℕ) → Near first second → Trail n Near first second first second 0 (pair first second)
+  pub trail-begins : (first second : ℕ) → Near first second → Trail n Near first second first second 0 (pair first second)
   trail-begins first second near = record {
     counted = two-count n (pair first second) (record {
       one = first;
@@ -170,7 +179,7 @@ module _ {n : ℕ} {Near : ℕ → ℕ → Type 0} (back : (x y : ℕ) → Near 
     trail-new : y ≢ first → seen y ≡ false
     trail-new nf = is-false (seen y) (λ t. o .on (w .lone y t nf (back at y (o .near))))
 
-    trail-more : y ≢ first → Trail n Near first second at y (k + 1) (with seen y)
+    pub trail-more : y ≢ first → Trail n Near first second at y (k + 1) (with seen y)
     trail-more nf = record {
       counted = omega (arith, count-with n seen y (below at y (o .near)) (trail-new nf), w .counted);
       start = w .start;
@@ -192,7 +201,7 @@ module _ {n : ℕ} {Near : ℕ → ℕ → Type 0} (back : (x y : ℕ) → Near 
         only-at z f near t (inr ne) = absurd (not-both (w .inner z y t f ne near) (trail-new nf))
 
     -- where the first is next, what is near a number that was seen was seen
-    trail-closes : y ≡ first → ExactlyTwo n (Near first) → (z u : ℕ) → seen z ≡ true → Near z u → seen u ≡ true
+    pub trail-closes : y ≡ first → ExactlyTwo n (Near first) → (z u : ℕ) → seen z ≡ true → Near z u → seen u ≡ true
     trail-closes home two z u t near = go (same-or-not z first) (same-or-not z at)
       where
         near-first : Near first at
@@ -213,7 +222,7 @@ module _ {n : ℕ} {Near : ℕ → ℕ → Type 0} (back : (x y : ℕ) → Near 
         go (inr nf) (inr ne) = w .inner z u t nf ne near
 
   module _ {On : ℕ → Type 0} {first second : ℕ} (start : Near first second) (on : On second) where
-    walk-behind : {k from at : ℕ} → Walk Near On first second k from at → Behind n Near On first second from at k
+    pub walk-behind : {k from at : ℕ} → Walk Near On first second k from at → Behind n Near On first second from at k
     walk-behind (begins z f s) = rw (z, f, s) (record {
       seen = pair first second;
       trail = trail-begins first second start;
@@ -227,9 +236,8 @@ module _ {n : ℕ} {Near : ℕ → ℕ → Type 0} (back : (x y : ℕ) → Near 
           all-on = λ z t ne. ⊎-elim (λ t. b .all-on z t ne) (λ (e : z ≡ y). subst On (sym e) oy) (with-either (b .seen) y z t);
         })
 
-    -- no longer than there are numbers
     pub walk-few : {k from at : ℕ} → Walk Near On first second k from at → k + 2 ≤ n
-    walk-few w = let b = walk-behind w in omega (arith, b .trail .counted, count-not n (b .seen))
+    walk-few w = trail-few (walk-behind w .trail)
 
     -- where the first is next, every number that is joined to where the walk is is `On`, but perhaps the first
     pub walk-whole : {Member : ℕ → Type 0} {k at z : ℕ} → Going Near On first second k at first → ExactlyTwo n (Near first) → Chain Member Near at z → z ≢ first → On z

@@ -5,13 +5,13 @@ use table::id_at;
 use values::choose;
 ghost use mathlib.Core.Path.{_≡_};
 ghost use mathlib.Core.Logic.{_≢_};
-ghost use mathlib.Core.Bool.{true};
 ghost use Prim.Native.Nat.{_≤_, _<_};
 ghost use lib.ListN.{length};
 ghost use Rattle.rules.specs.Proposals.{insideIn};
-ghost use Rattle.table.specs.Rows.{tableIn, rowsIn};
+ghost use Rattle.rules.specs.Table.{across};
+ghost use Rattle.table.specs.Rows.{tableIn, rowsIn, idIn};
 ghost use Rattle.table.specs.Ground.{Grounded};
-ghost use Rattle.round.specs.Edge.{Near, leads, Turned};
+ghost use Rattle.round.specs.Edge.{Near, wayOn, Turned};
 
 // The row at which a walk stops, and the row that would be next.
 pub struct Stop {
@@ -19,28 +19,30 @@ pub struct Stop {
     pub next: usize,
 }
 
-// A corner of row x that leads on about the edge of a and b, not back to `from`.
-fn way(rows: &[u8], neighbours: &[u32], a: usize, b: usize, from: usize, x: usize) -> usize
-    requires { ⌜ Grounded (now rows) (now neighbours) × (a ≢ b) × Near (tableIn (now rows)) a b x from ⌝ }
-    ensures { λ r. ⌜ (r < 4) × (leads (tableIn (now (rows .entry))) a b from x r ≡ true) ⌝ }
-{
-    let mut way = 0;
-    let mut corner = 0;
-    while corner < 4 {
-        let id = id_at(rows, x, corner);
-        let across = across_at(neighbours, x, corner);
-        way = choose((id != a) & (id != b) & (across != from), corner, way);
-        corner += 1;
-    }
-    way
+// The way on about an edge: the row across, and the id of the corner that is left out.
+pub struct Way {
+    pub row: usize,
+    pub id: usize,
 }
 
-// Of the two rows across row x that hold a and b, the other than `from`.
-fn onward(rows: &[u8], neighbours: &[u32], a: usize, b: usize, from: usize, x: usize) -> usize
-    requires { ⌜ Grounded (now rows) (now neighbours) × (a ≢ b) × Near (tableIn (now rows)) a b x from ⌝ }
-    ensures { λ r. ⌜ Near (tableIn (now (rows .entry))) a b x r × (r ≢ from) ⌝ }
+// From row x on about the edge of a and b, not back to `from`. The row across is chosen and not the corner, which would have to be looked up.
+pub fn onward(rows: &[u8], neighbours: &[u32], a: usize, b: usize, from: usize, x: usize) -> Way
+    requires { ⌜ Grounded (now rows) (now neighbours) × (x < rowsIn (now rows)) ⌝ }
+    ensures { λ r. ⌜ (r .row ≡ across (tableIn (now (rows .entry))) x (wayOn (tableIn (now (rows .entry))) a b from x))
+        × (r .id ≡ idIn (now (rows .entry)) x (wayOn (tableIn (now (rows .entry))) a b from x)) ⌝ }
 {
-    across_at(neighbours, x, way(rows, neighbours, a, b, from, x))
+    let mut row = across_at(neighbours, x, 0);
+    let mut id = id_at(rows, x, 0);
+    let mut corner = 0;
+    while corner < 4 {
+        let left = id_at(rows, x, corner);
+        let across = across_at(neighbours, x, corner);
+        let on = (left != a) & (left != b) & (across != from);
+        row = choose(on, across, row);
+        id = choose(on, left, id);
+        corner += 1;
+    }
+    Way { row, id }
 }
 
 // From row `first` to row `second` and on about the edge of a and b, up to the last row before the first again or before a row that is not of
@@ -59,12 +61,13 @@ pub fn turn(
 {
     let side = is_inside(marks, second);
     let mut at = second;
-    let mut next = onward(rows, neighbours, a, b, first, second);
+    let start = onward(rows, neighbours, a, b, first, second);
+    let mut next = start.row;
     let mut steps: usize = 0;
     while (next != first) & (is_inside(marks, next) == side) {
-        let y = onward(rows, neighbours, a, b, at, next);
+        let way = onward(rows, neighbours, a, b, at, next);
         at = next;
-        next = y;
+        next = way.row;
         steps += 1;
     }
     Stop { at, next }

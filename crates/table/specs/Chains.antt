@@ -5,11 +5,11 @@ use mathlib.Core.Logic.{_⊎_, inl, inr, ⊎-elim, _≢_}
 use mathlib.Core.Bool.{Bool, true, false, cond}
 use mathlib.Core.List.{List}
 use Prim.Native.Nat.{ℕ, _+_, _-_, _≤_, _<_}
-use native.Mathlib.Nat.{le-refl, lt-irrefl, eq-or-lt-of-le}
+use native.Mathlib.Nat.{le-refl, eq-or-lt-of-le}
 use native.Mathlib.Omega.{arith}
 use lib.Dec.{leb}
 use borrow.Author.Tests.{leb-true, leb-false}
-use lib.ListN.{length, getD, set}
+use lib.ListN.{length, getD, set, replicate, getD-replicate}
 use lib.Seq.{getD-set-same, getD-set-other}
 use Rattle.rules.specs.Below.{bit, sum, count}
 use Rattle.rules.specs.Laws.Truth.{true-or-false, is-false, same-or-not}
@@ -31,12 +31,12 @@ module _ (key : ℕ → ℕ) (n : ℕ) where
     pub heads : (v : ℕ) → v < 8192 → Next v i (getD head v 0)
     pub nexts : (p : ℕ) → i ≤ p → p < n → Next (key p) (p + 1) (getD next p 0)
 
-  pub none-threaded : (head next : List ℕ) → ((v : ℕ) → v < 8192 → getD head v 0 ≡ n) → Threaded n head next
-  none-threaded head next at-end = record {
-    heads = λ v l. subst (Next v n) (sym (at-end v l)) (record {
-      from = le-refl n;
-      upto = le-refl n;
-      hits = λ m. absurd (lt-irrefl n m);
+  pub none-threaded : {place : ℕ} (next : List ℕ) → place ≡ n → Threaded place (replicate 8192 place) next
+  none-threaded {place} next e = record {
+    heads = λ v l. subst (Next v place) (sym (getD-replicate 8192 v place 0 l)) (record {
+      from = le-refl place;
+      upto = omega arith;
+      hits = λ m. absurd (omega arith);
       passed = λ j l m. absurd (omega arith);
     });
     nexts = λ p l m. absurd (omega arith);

@@ -8,6 +8,7 @@ use Prim.Native.Nat.{ℕ, _+_, _*_, _/_, _%_, _≤_, _<_}
 use native.Mathlib.Nat.{zero-add, mod-lt, div-add-mod, lt-trans, mul-le-mul}
 use native.Mathlib.Omega.{arith}
 use borrow.Author.Tests.{not-true, not-false}
+use lib.ListN.{length}
 use Rattle.rules.specs.Below.{lowest, any, all, bit, count}
 use Rattle.rules.specs.Table.{Table}
 use Rattle.rules.specs.Laws.Truth.{same-test}
@@ -39,6 +40,10 @@ like-key t base m p q e = ap keyOf (sym (same-ids (faceAt t base m p) (faceAt t 
 -- the places of a kind, threaded by their keys
 abbrev pub Chained : Table → ℕ → ℕ → List ℕ → List ℕ → Type 0
 Chained t base m head next = Threaded (λ p. keyOf (faceAt t base m p)) (m * t .rows) 0 head next
+
+-- room for the place after each
+abbrev pub Room : List ℕ → Type 0
+Room next = length next ≡ 12288
 
 pub places-fit : {base m n : ℕ} → Kind base m → n ≤ mostRows → m * n ≤ 12288
 places-fit kind l = mul-le-mul (kind-small kind .1) l

@@ -13,7 +13,7 @@ ghost use Rattle.rules.specs.Below.{lowest};
 ghost use Rattle.values.specs.Search.{placeOf};
 ghost use Rattle.table.specs.Rows.{rowsIn, tableIn, RisingRows};
 ghost use Rattle.table.specs.Faces.{faceCorners, trianglesAt, trianglesEach};
-ghost use Rattle.table.specs.Places.{Chained};
+ghost use Rattle.table.specs.Places.{Chained, Room};
 ghost use Rattle.table.specs.Triangles.{unshared, Written};
 
 // Writes a row's number at a place of the list.
@@ -49,21 +49,17 @@ fn neighbours_by(
     Found::Nowhere
 }
 
-pub(crate) fn neighbours(rows: &[u8], work: &mut [u32]) -> Found
-    requires { ⌜ RisingRows (now rows) × (4 * rowsIn (now rows) ≤ length (now work)) ⌝ }
+pub(crate) fn neighbours(
+    rows: &[u8],
+    head: &mut [u16; 8192],
+    next: &mut [u16; 12288],
+    work: &mut [u32],
+) -> Found
+    requires { ⌜ RisingRows (now rows) × (4 * rowsIn (now rows) ≤ length (now work)) × Room (now next) ⌝ }
     ensures { λ r. ⌜ (placeOf r ≡ lowest (rowsIn (now (rows .entry))) (unshared (tableIn (now (rows .entry)))))
-        × Written (tableIn (now (rows .entry))) r (now (work .entry)) (now (work .exit)) ⌝ }
+        × Written (tableIn (now (rows .entry))) r (now (work .entry)) (now (work .exit)) × Room (now (next .exit)) ⌝ }
 {
     let corners = corner_table();
-    let mut head = [(TRIANGLES * row_count(rows)) as u16; 8192];
-    let mut next = [0u16; 12288];
-    thread(
-        rows,
-        &corners,
-        TRIANGLES_AT,
-        TRIANGLES,
-        &mut head,
-        &mut next,
-    );
-    neighbours_by(rows, &corners, &head, &next, work)
+    thread(rows, &corners, TRIANGLES_AT, TRIANGLES, head, next);
+    neighbours_by(rows, &corners, head, next, work)
 }

@@ -8,13 +8,13 @@ use values::choose;
 use values::from_u16;
 ghost use mathlib.Core.Path.{_≡_};
 ghost use mathlib.Core.Bool.{not};
-ghost use Prim.Native.Nat.{ℕ, _*_, _≤_, _<_};
-ghost use lib.ListN.{length, getD, set};
+ghost use Prim.Native.Nat.{_*_, _≤_, _<_};
+ghost use lib.ListN.{getD, set};
 ghost use Rattle.rules.specs.Below.{any, count};
 ghost use Rattle.table.specs.Rows.{tableIn, rowsIn};
 ghost use Rattle.rules.specs.Laws.Highest.{highest};
 ghost use Rattle.table.specs.Faces.{faceCorners, Kind};
-ghost use Rattle.table.specs.Places.{Chained, like};
+ghost use Rattle.table.specs.Places.{Chained, Room, like};
 ghost use Rattle.table.specs.Walk.{another};
 ghost use Rattle.rules.specs.Job.{mostRows};
 
@@ -35,10 +35,11 @@ pub(crate) fn thread(
     head: &mut [u16; 8192],
     next: &mut [u16; 12288],
 )
-    requires { ⌜ Kind base m × (rowsIn (now rows) ≤ mostRows) × (length (now head) ≡ 8192) × (length (now next) ≡ 12288) × ((v : ℕ) → v < 8192 → getD (now head) v 0 ≡ m * rowsIn (now rows)) × (now corners ≡ faceCorners) ⌝ }
-    ensures { λ _. ⌜ Chained (tableIn (now (rows .entry))) base m (now (head .exit)) (now (next .exit)) ⌝ }
+    requires { ⌜ Kind base m × (rowsIn (now rows) ≤ mostRows) × Room (now next) × (now corners ≡ faceCorners) ⌝ }
+    ensures { λ _. ⌜ Chained (tableIn (now (rows .entry))) base m (now (head .exit)) (now (next .exit)) × Room (now (next .exit)) ⌝ }
 {
     let mut place = m * row_count(rows);
+    *head = [place as u16; 8192];
     while 0 < place {
         place -= 1;
         link(

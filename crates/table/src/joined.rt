@@ -13,7 +13,7 @@ ghost use mathlib.Core.Bool.{true};
 ghost use Prim.Native.Nat.{ℕ, _+_, _*_, _<_};
 ghost use Rattle.rules.specs.Below.{lowest};
 ghost use Rattle.table.specs.Rows.{tableIn, rowsIn};
-ghost use Rattle.table.specs.Places.{faceAt, Chained};
+ghost use Rattle.table.specs.Places.{faceAt, Chained, Room};
 ghost use Rattle.table.specs.Ground.{Grounded};
 ghost use Rattle.table.specs.Faces.{faceCorners};
 ghost use Rattle.table.specs.Holders.{Joint, idsJoined, unjoined, Scratch};
@@ -94,14 +94,19 @@ fn broken_by(
 }
 
 // The first row with an edge, or with a vertex, whose rows are not joined.
-pub(crate) fn broken_face(rows: &[u8], neighbours: &[u32], base: usize, m: usize) -> Found
-    requires { ⌜ Grounded (now rows) (now neighbours) × Joint base m ⌝ }
-    ensures { λ r. ⌜ placeOf r ≡ lowest (rowsIn (now (rows .entry))) (unjoined (tableIn (now (rows .entry))) base m) ⌝ }
+pub(crate) fn broken_face(
+    rows: &[u8],
+    neighbours: &[u32],
+    base: usize,
+    m: usize,
+    head: &mut [u16; 8192],
+    next: &mut [u16; 12288],
+) -> Found
+    requires { ⌜ Grounded (now rows) (now neighbours) × Joint base m × Room (now next) ⌝ }
+    ensures { λ r. ⌜ (placeOf r ≡ lowest (rowsIn (now (rows .entry))) (unjoined (tableIn (now (rows .entry))) base m)) × Room (now (next .exit)) ⌝ }
 {
     let corners = corner_table();
-    let mut head = [(m * row_count(rows)) as u16; 8192];
-    let mut next = [0u16; 12288];
-    thread(rows, &corners, base, m, &mut head, &mut next);
+    thread(rows, &corners, base, m, head, next);
     let mut stamp = [0u16; 2048];
     let mut queue = [0u16; 2048];
     broken_by(
@@ -110,8 +115,8 @@ pub(crate) fn broken_face(rows: &[u8], neighbours: &[u32], base: usize, m: usize
         &corners,
         base,
         m,
-        &head,
-        &next,
+        head,
+        next,
         &mut stamp,
         &mut queue,
     )

@@ -26,6 +26,7 @@ ghost use Rattle.rules.specs.First.{firstMatch};
 ghost use Rattle.rules.specs.Job.{written, tableTests, mostRows};
 ghost use Rattle.rules.specs.Table.{holds, neighbourList};
 ghost use Rattle.table.specs.Rows.{rowsIn, idIn, tableIn, OrderedRows};
+ghost use Rattle.table.specs.Places.{Room};
 ghost use Rattle.table.specs.Ground.{Grounded};
 ghost use Rattle.table.specs.Closed.{verdictOf, joinedTests, sharedTests, leftOf};
 
@@ -88,17 +89,22 @@ pub fn clear(work: &mut [u32])
 }
 
 // Codes 8 and 9.
-fn check_joined(rows: &[u8], work: &mut [u32]) -> Broken
-    requires { ⌜ Grounded (now rows) (now work) ⌝ }
+fn check_joined(
+    rows: &[u8],
+    head: &mut [u16; 8192],
+    next: &mut [u16; 12288],
+    work: &mut [u32],
+) -> Broken
+    requires { ⌜ Grounded (now rows) (now work) × Room (now next) ⌝ }
     ensures { λ r. ⌜ (verdictOf r ≡ firstMatch 8 (joinedTests (tableIn (now (rows .entry)))))
         × (now (work .exit) ≡ leftOf r (now (work .entry))) ⌝ }
 {
-    match broken_face(rows, work, EDGES_AT, EDGES) {
+    match broken_face(rows, work, EDGES_AT, EDGES, head, next) {
         Found::At(row) => {
             clear(work);
             Broken::Edge(row)
         }
-        Found::Nowhere => match broken_face(rows, work, VERTICES_AT, VERTICES) {
+        Found::Nowhere => match broken_face(rows, work, VERTICES_AT, VERTICES, head, next) {
             Found::At(row) => {
                 clear(work);
                 Broken::Vertex(row)
@@ -108,18 +114,20 @@ fn check_joined(rows: &[u8], work: &mut [u32]) -> Broken
     }
 }
 
-// Codes 7 to 9.
+// Codes 7 to 9. One area on the stack serves the chains of triangles, then of edges, then of vertices.
 fn check_shared(rows: &[u8], work: &mut [u32]) -> Broken
     requires { ⌜ ((ids : ℕ) × OrderedRows (now rows) ids) × (4 * rowsIn (now rows) ≤ length (now work)) ⌝ }
     ensures { λ r. ⌜ (verdictOf r ≡ firstMatch 7 (sharedTests (tableIn (now (rows .entry)))))
         × (now (work .exit) ≡ leftOf r (written (neighbourList (tableIn (now (rows .entry)))) (now (work .entry)))) ⌝ }
 {
-    match neighbours(rows, work) {
+    let mut head = [0u16; 8192];
+    let mut next = [0u16; 12288];
+    match neighbours(rows, &mut head, &mut next, work) {
         Found::At(row) => {
             clear(work);
             Broken::Triangle(row)
         }
-        Found::Nowhere => check_joined(rows, work),
+        Found::Nowhere => check_joined(rows, &mut head, &mut next, work),
     }
 }
 

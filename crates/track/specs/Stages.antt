@@ -80,7 +80,7 @@ pub record Ready (h : Header) (rows marks proposals points : List ℕ) (buffers 
   pub triangle-room : 6 * rowsIn rows ≤ length (buffers .triangles)
 
 pub the-marks : {h : Header} {rows marks proposals points : List ℕ} {buffers : Lent} → Ready h rows marks proposals points buffers → Marked rows (buffers .work) marks (h .ids)
-the-marks s = record { ground = s .ground; few = s .few-ids; each = s .each }
+the-marks s = record { ground = s .ground; closed = s .closed; few = s .few-ids; each = s .each }
 
 -- where there are points, each is in range
 abbrev pub OnGrid : Header → List ℕ → Type 0

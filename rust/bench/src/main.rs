@@ -1,6 +1,7 @@
 //! Times the proved engine beside `plain` on jobs near 2,048 rows and prints
 //! Markdown tables, in microseconds: the best of many runs.
 
+mod clean;
 mod early;
 mod points;
 
@@ -69,6 +70,7 @@ fn main() {
             micros(stages.list),
         );
     }
+    clean::print();
     early::print();
     points::print();
 }
@@ -93,16 +95,21 @@ fn families(most: usize, random: &mut Random) -> Vec<(&'static str, Table)> {
         .collect()
 }
 
+/// A job from grown marks.
+fn grown(table: &Table, random: &mut Random) -> Job {
+    Job {
+        marks: growth::grown_marks(table, MOST_PROPOSALS, random),
+        ..table.job()
+    }
+}
+
 /// Four jobs for each family: from empty marks and from grown ones, without
 /// proposals and with as many as a job may have.
 fn jobs_to_time(random: &mut Random) -> Vec<(&'static str, Job)> {
     let mut jobs = Vec::new();
     for (title, table) in families(MOST_ROWS, random) {
         let empty = table.job();
-        let grown = Job {
-            marks: growth::grown_marks(&table, MOST_PROPOSALS, random),
-            ..table.job()
-        };
+        let grown = grown(&table, random);
         for (start, adds) in [(empty, 80), (grown, 60)] {
             let mut proposed = start.clone();
             growth::propose(&mut proposed, MOST_PROPOSALS, adds, random);

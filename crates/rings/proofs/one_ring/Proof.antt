@@ -1,27 +1,16 @@
-use mathlib.Core.Path.{_∙_}
-use Rattle.rings.specs.Rings.{far-edges, ring-of-far}
-use Rattle.rings.specs.Ends.{kept-none}
-use Rattle.table.specs.Rows.{tableIn}
-use Rattle.rules.specs.Proposals.{insideIn}
-use Rattle.rules.specs.Skin.{farEdge}
+use native.Mathlib.Nat.{not-suc-le-zero}
+use borrow.Author.Needs.{needs}
 use Rattle.rings.proofs.one_ring.Statement.{statement}
 use Rattle.rings.proofs.one_ring.Tie as tie
 
-gather-requires : tie.Need-gather-requires
-gather-requires c κs =
-    let start = c .before .before .before .before .before .before .before .before in (start .pre, kept-none _ (start .pre .few), c .before .before .before .before .corner-table .ensures)
+tally-one-requires : tie.Need-tally-one-requires
+tally-one-requires c κs = search needs
 
 is-ring-requires : tie.Need-is-ring-requires
-is-ring-requires c κs = (farEdge (tableIn _) (insideIn _) _, far-edges (tableIn _) (insideIn _) _ (c .before .before .before .before .before .before .before .before .before .before .before .before .pre .few) (c .before .before .before .gather .ensures))
+is-ring-requires c κs = (c .before .before .before .before .before .before .before .pre, λ w l. absurd (not-suc-le-zero l), c .before .before .before .corner-table .ensures, c .before .tally-one .ensures)
 
 returns : tie.Need-returns
-returns c = c .is-ring .ensures (farEdge (tableIn _) (insideIn _) _) (far-edges (tableIn _) (insideIn _) _ (c .before .before .before .before .before .before .before .before .before .before .before .before .before .pre .few) (c .before .before .before .before .gather .ensures)) ∙ ring-of-far (tableIn _) (insideIn _) _ _
+returns c = search needs
 
 pub one-ring-spec : {M : Type 1} → statement M
-one-ring-spec =
-    tie.close
-    (tie.spec
-    (λ c κs. tt)
-    gather-requires
-    is-ring-requires
-    returns)
+one-ring-spec = tie.close (tie.spec (λ c κs. tt) tally-one-requires is-ring-requires returns)

@@ -17,10 +17,10 @@ is-inside-requires : tie.Need-is-inside-requires Inv-loop μ-loop
 is-inside-requires c κs = let given = c .before .before .before .pre in omega (arith, given .1, given .3 .0 .0)
 
 onward-requires : tie.Need-onward-requires Inv-loop μ-loop
-onward-requires c κs = let given = c .before .before .before .before .pre in (given .0, given .2, given .3)
+onward-requires c κs = let given = c .before .before .before .before .pre in (given .0, given .3 .0 .0)
 
 loop-holds : tie.Need-loop-holds Inv-loop μ-loop
-loop-holds c = let given = c .before .before .before .before .before .pre in turn-begins (given .0 .1 .paired) refl (given .2) _ (given .3) (c .onward .ensures .0) (c .onward .ensures .1)
+loop-holds c = let given = c .before .before .before .before .before .pre in turn-begins (given .0 .1 .paired) refl (given .2) _ (given .3) (c .onward .ensures .0)
 
 is-inside-requires-2 : tie.Need-is-inside-requires-2 Inv-loop μ-loop
 is-inside-requires-2 c κs =
@@ -29,7 +29,7 @@ is-inside-requires-2 c κs =
 onward-requires-2 : tie.Need-onward-requires-2 Inv-loop μ-loop
 onward-requires-2 c κs =
     let given = c .before .before .before .before .before .before .before .before .pre in
-    (given .0, given .2, turn-next (given .0 .1 .paired) refl (given .2) _ (given .3) (c .before .before .loop .inv))
+    (given .0, turn-next (given .0 .1 .paired) refl (given .2) _ (given .3) (c .before .before .loop .inv) .0 .0)
 
 add-steps : tie.Need-add-steps Inv-loop μ-loop
 add-steps c =
@@ -45,7 +45,7 @@ loop-again : tie.Need-loop-again Inv-loop μ-loop
 loop-again c =
     let given = c .before .before .before .before .before .before .before .before .before .pre in
     let (ne, side) = test-goes (c .before .before .is-inside2 .ensures) (c .before .before .before .before .before .is-inside .ensures) (c .before .if1 .taken) in
-    turn-more (given .0 .1 .paired) refl (given .2) _ (given .3) (c .before .before .before .loop .inv) ne side (c .onward2 .ensures .0) (c .onward2 .ensures .1) refl
+    turn-more (given .0 .1 .paired) refl (given .2) _ (given .3) (c .before .before .before .loop .inv) ne side (c .onward2 .ensures .0) refl
 
 returns : tie.Need-returns Inv-loop μ-loop
 returns c = record {

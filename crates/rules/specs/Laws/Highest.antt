@@ -3,7 +3,7 @@ use mathlib.Core.Path.{_≡_, refl, ap, _∙_, subst}
 use mathlib.Core.Logic.{⊎-elim}
 use mathlib.Core.Bool.{Bool, true, false, cond}
 use Prim.Native.Nat.{ℕ, zero, suc, _+_, _≤_, _<_}
-use native.Mathlib.Nat.{le-refl, not-suc-le-zero, le-of-suc-le-suc, eq-or-lt-of-le}
+use native.Mathlib.Nat.{le-refl, le-step, not-suc-le-zero, le-of-suc-le-suc, eq-or-lt-of-le}
 use native.Mathlib.Numerals.{add-one}
 use native.Mathlib.Omega.{arith}
 use Rattle.rules.specs.Below.{sum, count}
@@ -24,6 +24,16 @@ unfolding highest
 highest-small zero p = le-refl 0
 highest-small (suc n) p =
     ⊎-elim (λ (t : p n ≡ true). rw t (omega arith)) (λ (f : p n ≡ false). rw f (omega (arith, highest-small n p))) (true-or-false (p n))
+
+-- where one passes, the highest does
+pub highest-passes : (n : ℕ) (p : ℕ → Bool) (k : ℕ) → k < n → p k ≡ true → (highest n p < n) × (p (highest n p) ≡ true)
+unfolding highest
+highest-passes zero p k l t = absurd (not-suc-le-zero l)
+highest-passes (suc n) p k l t =
+    ⊎-elim (λ (on : p n ≡ true). rw on (le-refl (suc n), on))
+    (λ (off : p n ≡ false).
+    let m : k < n = ⊎-elim (λ (e : k ≡ n). absurd (not-both t (ap p e ∙ off))) (λ (m : k < n). m) (eq-or-lt-of-le (le-of-suc-le-suc l)) in
+    rw off (let (below, passes) = highest-passes n p k m t in (le-step below, passes))) (true-or-false (p n))
 
 -- the only one that passes
 pub highest-is : (n : ℕ) (p : ℕ → Bool) (k : ℕ) → k < n → p k ≡ true → ((j : ℕ) → j < n → p j ≡ true → j ≡ k) → highest n p ≡ k

@@ -25,6 +25,8 @@ harderJobs =
     ++ row 4 10 14 12 ++ row 5 11 13 12))
     -- two separate rings about vertex 6, though each end lies on two far edges
     ∷ refuses 8 tableC (marked 15 (6 ∷ 14 ∷ [])) [] 12 6
+    -- one closed trail passes all six far edges of vertex 2, and end 7 twice
+    ∷ refuses 8 tableC (marked 15 (6 ∷ 7 ∷ 9 ∷ 11 ∷ [])) [] 12 2
     -- a triangle in one row only
     ∷ refuses 6 (take 16 tableA ++ row 1 2 3 5) (marked 5 []) [] 7 1
     ∷ []

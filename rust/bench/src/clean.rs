@@ -1,0 +1,44 @@
+//! Clean and list: what marks, rings and the skin list add to the checks of the
+//! table. The proved engine has no stage times of its own. A job from grown marks
+//! and the same job with a mark that is refused take turns, so that both meet the
+//! machine at its quietest.
+
+use crate::{families, grown};
+use bench::{micros, Timed};
+use common::MOST_ROWS;
+use jobs::{Job, Random};
+use plain::Stages;
+use std::time::{Duration, Instant};
+
+/// Time given to each family, for both jobs and both engines together.
+const TIME: Duration = Duration::from_millis(1500);
+
+pub(crate) fn print() {
+    println!("\nMarks, rings and skin list of a job from grown marks, without proposals:\n");
+    println!("| table | skin | track | plain | ratio |");
+    println!("|---|---|---|---|---|");
+    let random = &mut Random::new(1);
+    for (title, table) in families(MOST_ROWS, random) {
+        let clean = grown(&table, random);
+        let mut refused = clean.clone();
+        refused.marks[0] = 2;
+        let (skin, track, plain) = time(&clean, &refused);
+        let ratio = track.as_secs_f64() / plain.as_secs_f64();
+        println!("| {title} | {skin} | {} | {} | {ratio:.2} |", micros(track), micros(plain));
+    }
+}
+
+fn time(clean: &Job, refused: &Job) -> (u32, Duration, Duration) {
+    let mut whole = Timed::new(clean);
+    let mut checks = Timed::new(refused);
+    assert_eq!((whole.outcome.code, checks.outcome.code), (0, 10));
+    let mut plain = Duration::MAX;
+    let begun = Instant::now();
+    while begun.elapsed() < TIME {
+        whole.run();
+        checks.run();
+        let Stages { clean, list, .. } = whole.stages();
+        plain = plain.min(clean + list);
+    }
+    (whole.outcome.triangles, whole.track - checks.track, plain)
+}
