@@ -96,7 +96,7 @@ enum track_order {
  * stack included. With less the system stops the program, unless it is a thread
  * whose guard area is smaller than what is missing: then memory beside its
  * stack is overwritten. */
-#define TRACK_STACK 100000
+#define TRACK_STACK 52000
 
 /* What each word of the outcome is. */
 enum track_outcome {

@@ -1,9 +1,9 @@
 -- The far edges of a vertex, by places: place p is the triangle of row p / 4 that leaves out corner p % 4. Each far edge is met at one place,
 -- in the inside row that holds its triangle.
-use mathlib.Core.Path.{_≡_, refl, sym, ap, _∙_, subst}
+use mathlib.Core.Path.{_≡_, refl, sym, ap, _∙_}
 use mathlib.Core.Logic.{_⊎_, inl, inr, ⊎-elim, _≢_, Ne·symm}
-use mathlib.Core.Bool.{Bool, true, false, not, _&&_, _||_, cond}
-use mathlib.Core.List.{List, map, flatten}
+use mathlib.Core.Bool.{Bool, true, not, _&&_, _||_, cond}
+use mathlib.Core.List.{List, flatten}
 use Prim.Native.Nat.{ℕ, _+_, _*_, _/_, _%_, _≤_, _<_}
 use native.Mathlib.Nat.{mod-lt, div-add-mod}
 use native.Mathlib.Omega.{arith}
@@ -14,7 +14,7 @@ use Rattle.rules.specs.Below.{any, all, count, gather, tabulate}
 use Rattle.rules.specs.Shape.{triangleTable, edgeTable, vertices as vertexTable}
 use Rattle.rules.specs.Table.{Table}
 use Rattle.rules.specs.Skin.{onSkin, different, holdsThree, farEdge}
-use Rattle.rules.specs.Laws.Truth.{true-or-false, not-both, is-false, same-test, and-first, and-second, and-both, or-either, or-first, or-second}
+use Rattle.rules.specs.Laws.Truth.{true-or-false, same-test, and-first, and-second, and-both, or-either, or-first, or-second}
 use Rattle.rules.specs.Laws.Below.{any-here, any-some, all-each}
 use Rattle.rules.specs.Laws.Count.{ExactlyOne, count-one}
 use Rattle.rules.specs.Laws.Places.{row-of, within-row, row-below, place-below}
@@ -114,11 +114,11 @@ beside {f} {v} {x} {y} s ix iy a b =
 -- ---- the corners of a triangle, by one computed test each
 
 corners-test : all 4 (λ c. all 4 (λ k. eqb k c || (eqb (cornerOf c 0) k || (eqb (cornerOf c 1) k || eqb (cornerOf c 2) k)))) ≡ true
-unfolding all cornerOf faceCorners triangleTable edgeTable vertexTable tabulate gather map flatten
+unfolding all cornerOf faceCorners triangleTable edgeTable vertexTable tabulate gather flatten
 corners-test = refl
 
 stays-test : all 4 (λ c. all 3 (λ i. ltb (cornerOf c i) 4 && not (eqb (cornerOf c i) c))) ≡ true
-unfolding all cornerOf faceCorners triangleTable edgeTable vertexTable tabulate gather map flatten
+unfolding all cornerOf faceCorners triangleTable edgeTable vertexTable tabulate gather flatten
 stays-test = refl
 
 corner-stays : (c i : ℕ) → c < 4 → i < 3 → (cornerOf c i < 4) × (cornerOf c i ≢ c)
@@ -145,7 +145,7 @@ face-corner t r c u lc (inr (inl e)) = let (l, ne) = corner-stays c 1 lc (lit< t
 face-corner t r c u lc (inr (inr e)) = let (l, ne) = corner-stays c 2 lc (lit< tt) in (cornerOf c 2, l, ne, e)
 
 rises-test : all 4 (λ c. ltb (cornerOf c 0) (cornerOf c 1) && ltb (cornerOf c 1) (cornerOf c 2)) ≡ true
-unfolding all cornerOf faceCorners triangleTable edgeTable vertexTable tabulate gather map flatten
+unfolding all cornerOf faceCorners triangleTable edgeTable vertexTable tabulate gather flatten
 rises-test = refl
 
 -- the ids rise within a triangle

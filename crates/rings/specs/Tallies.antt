@@ -1,5 +1,5 @@
 -- The skin triangles at a vertex, counted place by place: how many there are, and the last of their places.
-use mathlib.Core.Path.{_≡_, refl, sym, ap, _∙_}
+use mathlib.Core.Path.{_≡_, refl, sym, _∙_}
 use mathlib.Core.Logic.{_⊎_, inl, inr, ⊎-elim, _≢_}
 use mathlib.Core.Bool.{Bool, true, false, not, _&&_, _||_, cond, and-false}
 use mathlib.Core.List.{List}
@@ -11,12 +11,11 @@ use lib.ListN.{length, getD, set, replicate, length-set, length-replicate, getD-
 use lib.Seq.{getD-set-same, getD-set-other}
 use borrow.Author.Tests.{eq-eqb, ne-eqb, not-true, not-false}
 use Rattle.rules.specs.Below.{bit, sum, count}
-use Rattle.rules.specs.Skin.{onSkin}
 use Rattle.rules.specs.Proposals.{insideIn}
 use Rattle.rules.specs.Job.{mostIds}
-use Rattle.rules.specs.Laws.Truth.{true-or-false, same-or-not}
+use Rattle.rules.specs.Laws.Truth.{same-or-not}
 use Rattle.rules.specs.Laws.Count.{bit-one, bit-zero, count-more, count-not}
-use Rattle.rules.specs.Laws.Highest.{highest, highest-more, highest-small}
+use Rattle.rules.specs.Laws.Highest.{highest, highest-more}
 use Rattle.rules.specs.Laws.Places.{row-below}
 use Rattle.table.specs.declared.faces.Face.{Face}
 use Rattle.table.specs.Rows.{tableIn, rowsIn}
@@ -25,7 +24,7 @@ use Rattle.table.specs.Ground.{neighbour-below, neighbour-listed}
 use Rattle.skin.specs.Between.{between, between-skin}
 use Rattle.rings.specs.Far.{inFace, shown, shownAt, face-rises, Marked}
 
--- of v, before place p
+-- how many skin triangles v has at the places before p, and the last of these
 pub record Tallied (bytes marks : List ℕ) (v p total place : ℕ) : Type 0 where
   pub counted : total ≡ count p (shownAt (tableIn bytes) (insideIn marks) v)
   pub last : place ≡ highest p (shownAt (tableIn bytes) (insideIn marks) v)
@@ -53,7 +52,7 @@ pub one-small : (on : Bool) {one : ℕ} → one ≡ cond on 1 0 → one ≤ 1
 one-small true e = omega arith
 one-small false e = omega arith
 
--- of every id
+-- the same of every id
 pub record Tallies (bytes marks : List ℕ) (p : ℕ) (counts places : List ℕ) : Type 0 where
   pub counts-long : length counts ≡ mostIds
   pub places-long : length places ≡ mostIds
@@ -69,7 +68,7 @@ tallies-begin bytes marks = record {
 -- ---- one place
 
 module _ {bytes neighbours marks : List ℕ} {ids : ℕ} (m : Marked bytes neighbours marks ids) {place : ℕ} (here : place < 4 * rowsIn bytes) where
-  pub place-row : place / 4 < rowsIn bytes
+  place-row : place / 4 < rowsIn bytes
   place-row = row-below {m = 4} (lit< tt) (rowsIn bytes) place here
 
   place-corner : place % 4 < 4

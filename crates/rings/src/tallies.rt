@@ -9,7 +9,7 @@ use values::choose;
 ghost use mathlib.Core.Path.{_≡_};
 ghost use mathlib.Core.Bool.{true};
 ghost use Prim.Native.Nat.{_+_, _*_, _/_, _<_};
-ghost use lib.ListN.{length, getD, set};
+ghost use lib.ListN.{getD, set};
 ghost use Rattle.rules.specs.Proposals.{insideIn};
 ghost use Rattle.table.specs.Rows.{tableIn, rowsIn};
 ghost use Rattle.table.specs.Faces.{faceCorners};

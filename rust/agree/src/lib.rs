@@ -3,7 +3,7 @@
 //! both orders, and its outward list is looked at by itself.
 
 use common::{Buffers, Outcome};
-use jobs::{outward, Job};
+use jobs::{outward, rings, Job};
 use std::fmt::Debug;
 use std::path::PathBuf;
 use std::{env, fs, thread};
@@ -21,6 +21,9 @@ pub struct Comparer {
     /// How often code 11 was given with the lowest outer row outside, and with
     /// it inside.
     pub unlike: [usize; 2],
+    /// How often code 12 was given where one closed way passes all far edges of
+    /// the vertex, with the outer rows outside and with them inside.
+    pub pinched: [usize; 2],
     /// How often the outward list was another than the rising one, with the
     /// outer rows outside and with them inside.
     pub turned: [usize; 2],
@@ -49,6 +52,7 @@ impl Comparer {
             codes: [0; 16],
             answers: [[[0; 8]; 3]; 2],
             unlike: [0; 2],
+            pinched: [0; 2],
             turned: [0; 2],
         }
     }
@@ -153,6 +157,10 @@ impl Comparer {
                 }
             }
             11 => self.unlike[sky] += 1,
+            12 => {
+                let one_way = rings::passed_by_one_way(job, ran.outcome.place);
+                self.pinched[sky] += usize::from(one_way);
+            }
             _ => {}
         }
     }
@@ -175,8 +183,8 @@ impl Comparer {
 
     pub fn report(&self, title: &str) {
         println!(
-            "{title}: {} jobs, codes {:?}, unlike marks {:?}, answers {:?}, turned {:?}",
-            self.jobs, self.codes, self.unlike, self.answers, self.turned
+            "{title}: {} jobs, codes {:?}, unlike marks {:?}, pinched {:?}, answers {:?}, turned {:?}",
+            self.jobs, self.codes, self.unlike, self.pinched, self.answers, self.turned
         );
     }
 }

@@ -39,11 +39,13 @@ fn random_jobs() {
                 codes,
                 answers,
                 unlike,
+                pinched,
                 turned,
                 ..
             } = comparer;
             assert!(codes.iter().all(|&given| given >= 100), "{codes:?}");
             assert!(unlike.iter().all(|&given| given >= 50), "{unlike:?}");
+            assert!(pinched.iter().all(|&given| given >= 50), "{pinched:?}");
             assert!(turned.iter().all(|&lists| lists >= 500), "{turned:?}");
             assert!(comparer.each_answer(500), "{answers:?}");
         }
@@ -100,12 +102,14 @@ fn stored_jobs() {
         }
         comparer.report("stored jobs");
         // They show each code but 4, which is about room, each answer, to adds
-        // and to removes, and with the sky inside, and lists that are turned.
+        // and to removes, and with the sky inside, lists that are turned, and a
+        // vertex whose far edges only look like one ring.
         for (code, &count) in comparer.codes.iter().enumerate() {
             assert_eq!(count > 0, code != 4, "code {code}");
         }
         let answers = &comparer.answers;
         assert!(comparer.each_answer_under(0, 1), "{answers:?}");
+        assert_eq!(comparer.pinched, [1, 0]);
         let given_inside = |answer: usize| answers[1].iter().any(|kind| kind[answer] > 0);
         assert!((0..8).all(given_inside), "{answers:?}");
         assert!(
@@ -349,6 +353,8 @@ fn every_start_and_proposal() {
         }
         comparer.report("every start and proposal");
         assert_eq!(comparer.unlike, [0, 0]);
+        let pinched = comparer.pinched;
+        assert!(pinched.iter().all(|&given| given > 200), "{pinched:?}");
         let turned = comparer.turned;
         assert!(turned.iter().all(|&lists| lists > 500), "{turned:?}");
     });

@@ -32,11 +32,16 @@ impl Timed {
         }
     }
 
-    /// Runs both engines once more.
-    pub fn run(&mut self) {
+    /// The time of one run of the proved engine.
+    pub fn track_once(&mut self) -> Duration {
         let before = Instant::now();
         track::run(&self.job, self.outward, self.buffers.lend());
-        self.track = self.track.min(before.elapsed());
+        before.elapsed()
+    }
+
+    /// Runs both engines once more.
+    pub fn run(&mut self) {
+        self.track = self.track.min(self.track_once());
         let before = Instant::now();
         plain::run(&self.job, self.outward, self.buffers.lend());
         self.plain = self.plain.min(before.elapsed());

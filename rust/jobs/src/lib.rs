@@ -8,6 +8,7 @@ mod job;
 pub mod outward;
 pub mod placed;
 mod random;
+pub mod rings;
 pub mod tables;
 pub mod text;
 pub mod worst;

@@ -284,9 +284,10 @@ fn four_of_seven(row: [u32; 4]) -> bool {
     row[3] - row[0] == 3
 }
 
-/// Code 12 gathers from all rows at each skin vertex, and all ids but two are.
-/// Inside rows take longer; of each fourteen ten are, since fewer than four
-/// outside would not have all seven ids on their skin.
+/// Code 12 follows the ring of each skin vertex, and all ids but two are. About
+/// an edge it passes an inside row twice and an outside row once; of each
+/// fourteen rows ten are inside, since fewer than four outside would not have
+/// all seven ids on their skin.
 fn rings() -> Job {
     let inside = |row| !four_of_seven(row);
     sevens(inside, inside)

@@ -8,10 +8,10 @@ use std::path::{Path, PathBuf};
 
 const FOLDER: &str = concat!(env!("CARGO_MANIFEST_DIR"), "/../../jobs");
 
-const NAMES: [&str; 27] = [
+const NAMES: [&str; 28] = [
     "a", "adds", "b", "beside", "c", "cut", "d", "e", "f", "far", "flat", "folded", "g", "gap",
-    "h", "i", "inward", "j", "largest", "n2049", "n4", "points", "removes", "road", "short31",
-    "sky", "v6",
+    "h", "i", "inward", "j", "largest", "n2049", "n4", "pinched", "points", "removes", "road",
+    "short31", "sky", "v6",
 ];
 
 fn path(name: &str, ending: &str) -> PathBuf {
