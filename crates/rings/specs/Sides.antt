@@ -19,39 +19,38 @@ use Rattle.rules.specs.Reading.Skin.{as-tested, Different, TriangleIds, three-r
 use Rattle.round.specs.Trail.{Behind, walk-on}
 use Rattle.round.specs.Edge.{Near, wayOn, leads-reads, near-at, near-back, near-side, neighbours-near, way-leads, Turned, turn-behind}
 
+abbrev HoldThem : Table → ℕ → ℕ → ℕ → ℕ → Type 0
+HoldThem t v w u z = Holds t z v × Holds t z w × Holds t z u
+
 -- the triangle of v, w and u is between the inside row x and the outside row y
 pub record Between (t : Table) (inside : ℕ → Bool) (v w u x y : ℕ) : Type 0 where
   pub differ : Different v w u
   pub x-below : x < t .rows
   pub y-below : y < t .rows
-  pub x-holds : Holds t x v × Holds t x w × Holds t x u
-  pub y-holds : Holds t y v × Holds t y w × Holds t y u
+  pub x-holds : HoldThem t v w u x
+  pub y-holds : HoldThem t v w u y
   pub x-inside : inside x ≡ true
   pub y-outside : inside y ≡ false
 
--- the same triangle, seen from its other end
-pub seen-back : {t : Table} {inside : ℕ → Bool} {v w u x y : ℕ} → Between t inside v w u x y → Between t inside v u w x y
-seen-back p = record {
-  differ = (p .differ .1, p .differ .0, Ne·symm (p .differ .2));
+reordered : {t : Table} {inside : ℕ → Bool} {v w u x y v′ w′ u′ : ℕ} → Different v′ w′ u′ → ((z : ℕ) → HoldThem t v w u z → HoldThem t v′ w′ u′ z)
+    → Between t inside v w u x y → Between t inside v′ w′ u′ x y
+reordered {x = x} {y = y} differ hold p = record {
+  differ = differ;
   x-below = p .x-below;
   y-below = p .y-below;
-  x-holds = (p .x-holds .0, p .x-holds .2, p .x-holds .1);
-  y-holds = (p .y-holds .0, p .y-holds .2, p .y-holds .1);
+  x-holds = hold x (p .x-holds);
+  y-holds = hold y (p .y-holds);
   x-inside = p .x-inside;
   y-outside = p .y-outside;
 }
 
--- and from its other vertex
+-- the same triangle, seen from its other end
+pub seen-back : {t : Table} {inside : ℕ → Bool} {v w u x y : ℕ} → Between t inside v w u x y → Between t inside v u w x y
+seen-back p = let (vw, vu, wu) = p .differ in reordered (vu, vw, Ne·symm wu) (λ z (hv, hw, hu). (hv, hu, hw)) p
+
+-- and from w in the place of v
 swapped : {t : Table} {inside : ℕ → Bool} {v w u x y : ℕ} → Between t inside v w u x y → Between t inside w v u x y
-swapped p = record {
-  differ = (Ne·symm (p .differ .0), p .differ .2, p .differ .1);
-  x-below = p .x-below;
-  y-below = p .y-below;
-  x-holds = (p .x-holds .1, p .x-holds .0, p .x-holds .2);
-  y-holds = (p .y-holds .1, p .y-holds .0, p .y-holds .2);
-  x-inside = p .x-inside;
-  y-outside = p .y-outside;
-}
+swapped p = let (vw, vu, wu) = p .differ in reordered (Ne·symm vw, wu, vu) (λ z (hv, hw, hu). (hw, hv, hu)) p
 
 sides-differ : (inside : ℕ → Bool) {x y : ℕ} → inside x ≡ true → inside y ≡ false → x ≢ y
 sides-differ inside i o e = not-both i (ap inside e ∙ o)
@@ -64,7 +63,7 @@ module _ {t : Table} {idCount : ℕ} (paired : Paired t idCount) (four : t .corn
     corner-below : corner .0 < t .corners
     corner-below = subst (λ n. corner .0 < n) (sym four) (corner .1)
 
-    held : (z : ℕ) → Holds t z v × Holds t z w × Holds t z u → Side t x (corner .0) z
+    held : (z : ℕ) → HoldThem t v w u z → Side t x (corner .0) z
     held z h = side-reads t x (corner .0) z .0 (triangle-rows t four (corner .2) (p .differ) (corner .1) z ∙ three-reads t four v w u z .1 h)
 
     pub between-near : Near t v w x y
@@ -96,7 +95,7 @@ module _ {t : Table} {idCount : ℕ} (paired : Paired t idCount) (four : t .corn
     between-rows : {x′ y′ : ℕ} → Between t inside v w u x′ y′ → (x ≡ x′) × (y ≡ y′)
     between-rows {x′} {y′} q =
         let o = across-is paired x (corner .0) (p .x-below) corner-below in
-        let out : (z : ℕ) → z < t .rows → inside z ≡ false → Holds t z v × Holds t z w × Holds t z u → z ≡ o .other =
+        let out : (z : ℕ) → z < t .rows → inside z ≡ false → HoldThem t v w u z → z ≡ o .other =
         λ z l f h. o .only z l (held z h) (λ (e : z ≡ x). sides-differ inside (p .x-inside) f (sym e))
         in (
           ⊎-elim (λ (e : x′ ≡ x). sym e) (λ ne. absurd (sides-differ inside (q .x-inside) (p .y-outside)
@@ -142,7 +141,7 @@ module _ {t : Table} {idCount : ℕ} (paired : Paired t idCount) (four : t .corn
       let b = skin-between-sides t inside (as-tested inside) paired (s .row) (s .corner) (s .row-below) (subst (λ n. s .corner < n) (sym four) (s .corner-below)) .0
       (skin-reads t inside (as-tested inside) (s .row) (s .corner) .1 (s .on-skin))
       in
-      let three : (z : ℕ) → Side t (s .row) (s .corner) z → Holds t z v × Holds t z w × Holds t z u =
+      let three : (z : ℕ) → Side t (s .row) (s .corner) z → HoldThem t v w u z =
       λ z h.
       three-reads t four v w u z .0 (sym (triangle-rows t four (s .ids) (s .different) (s .corner-below) z) ∙ side-reads t (s .row) (s .corner) z .1 h)
       in (

@@ -106,7 +106,7 @@ module _ {t : Table} {idCount : ℕ} (paired : Paired t idCount) (four : t .corn
       let same : o .other ≡ y = sym (across-other t x c o) ∙ e in
       (subst (λ u. u ≢ x) same (o .differs), subst (Side t x c) same (o .is))
 
-  pub near-apart : (x y : ℕ) → Near t a b x y → x ≢ y
+  near-apart : (x y : ℕ) → Near t a b x y → x ≢ y
   near-apart x y n = Ne·symm (near-side x y n .0)
 
   pub near-below : (x y : ℕ) → Near t a b x y → y < t .rows
@@ -119,7 +119,7 @@ module _ {t : Table} {idCount : ℕ} (paired : Paired t idCount) (four : t .corn
       neighbours-near y x at′ at (neighbours-back t x y (paired .rising x (at .0)) (paired .rising y (at′ .0)) (Ne·symm ne, (c, rw four m, on)))
 
   -- the rows across the two triangles of a row that hold the edge
-  pub near-two : (x : ℕ) → At t a b x → ExactlyTwo (t .rows) (Near t a b x)
+  near-two : (x : ℕ) → At t a b x → ExactlyTwo (t .rows) (Near t a b x)
   near-two x (l, held) =
       let ((i, li, p), (j, lj, q)) = both-reads t a b x .0 held in
       let mi = subst (λ n. i < n) four li in
