@@ -1,7 +1,7 @@
 -- The ring of a vertex, followed from one skin triangle to the next about their common edge.
 use mathlib.Core.Path.{_≡_, refl, sym, _∙_, subst}
 use mathlib.Core.Logic.{_⊎_, inl, inr, ⊎-elim, _↔_, _≢_}
-use mathlib.Core.Bool.{Bool, true, false, not, _&&_, xor}
+use mathlib.Core.Bool.{Bool, true, false, not, _&&_, _||_, xor}
 use mathlib.Core.Option.{none}
 use Prim.Native.Nat.{ℕ, _+_, _*_, _/_, _%_, _≤_, _<_, zero-le}
 use native.Mathlib.Nat.{mod-lt}
@@ -11,7 +11,7 @@ use borrow.Author.Tests.{eqb-true, eq-eqb, eqb-false, not-true, not-false}
 use Rattle.rules.specs.Below.{count, lowest}
 use Rattle.rules.specs.Table.{Table, across}
 use Rattle.rules.specs.Skin.{onSkin, farEdge, skinVertex, oneRing, ringless}
-use Rattle.rules.specs.Laws.Truth.{true-or-false, not-both, is-false, is-true, same-test, and-reads, eqb-reads, and-first, and-second, same-or-not}
+use Rattle.rules.specs.Laws.Truth.{true-or-false, not-both, is-false, is-true, same-test, and-reads, or-reads, not-reads, eqb-reads, and-first, and-second, same-or-not}
 use Rattle.rules.specs.Laws.Below.{lowest-none}
 use Rattle.rules.specs.Laws.Count.{ExactlyTwo, sum-zero, count-same, count-some, count-two, two-count, count-other, count-zero}
 use Rattle.rules.specs.Laws.Highest.{highest, highest-passes}
@@ -69,8 +69,16 @@ pub record Home (t : Table) (inside : ℕ → Bool) (n v first w met : ℕ) : Ty
   pub next : Next (Joins n (farEdge t inside v)) from last w
   pub home : w ≡ first
 
+-- Before the first turn one stands at the first end.
+abbrev Unturned : Table → (ℕ → Bool) → ℕ → ℕ → ℕ → ℕ → ℕ → ℕ → Type 0
+Unturned t inside v first w x y met = (met ≡ 0) × (w ≡ first) × SkinEdge t inside v w x y
+
 abbrev pub Ringing : Table → (ℕ → Bool) → ℕ → ℕ → ℕ → ℕ → ℕ → ℕ → ℕ → Type 0
-Ringing t inside n v first w x y met = Underway t inside n v first w x y met ⊎ Home t inside n v first w met
+Ringing t inside n v first w x y met = (Unturned t inside v first w x y met ⊎ Underway t inside n v first w x y met) ⊎ Home t inside n v first w met
+
+-- the loop's test, whether to turn: at first, and until the first end is ahead
+turns : (met w first : ℕ) → ((eqb met 0 || not (eqb w first)) ≡ true) ↔ ((met ≡ 0) ⊎ (w ≢ first))
+turns met w first = or-reads (eqb-reads met 0) (not-reads (eqb-reads w first))
 
 loopless : (t : Table) (inside : ℕ → Bool) (v a b : ℕ) → farEdge t inside v a b ≡ true → a ≢ b
 loopless t inside v a b e = different-reads v a b .0 (differ-far t inside v a b e) .2
@@ -153,67 +161,72 @@ module _ {t : Table} {n : ℕ} (closed : Closed t n) (four : t .corners ≡ 4) {
   pub turn-fails : {w x y : ℕ} → SkinEdge t inside v w x y → {two : Bool} {p q end : ℕ} → Landed t inside n v w x y two p q end → not two ≡ true → false ≡ oneRing t inside n v
   turn-fails {w} (u, here) {two} h e = sym (ring-false here (eqb-false (count n (farEdge t inside v w)) 2 (sym (h .counted) ∙ not-true two e)))
 
-  pub ring-begins : {first x y : ℕ} {two : Bool} {p q end : ℕ} → Landed t inside n v first x y two p q end → not two ≡ false → Ringing t inside n v first end p q 1
-  ring-begins {first} {end = end} h e =
-      let ahead = joins (h .there) in
-      inl (record {
-        second = end;
-        from = first;
-        seen = pair first end;
-        way = follow-begins n (far-back t inside v) (loopless t inside v) first end ahead (two-edges h e);
-        here = seen-back (h .there);
-        away = λ (q : end ≡ first). loopless t inside v first end (ahead .2) (sym q);
-      })
-
-  module _ {first w x y met : ℕ} (s : Ringing t inside n v first w x y met) (away : w ≢ first) where
-    underway : Underway t inside n v first w x y met
-    underway = ⊎-elim (λ g. g) (λ h. absurd (away (h .home))) s
+  module _ {first w x y met : ℕ} (s : Ringing t inside n v first w x y met) (test : (eqb met 0 || not (eqb w first)) ≡ true) where
+    on-the-way : Unturned t inside v first w x y met ⊎ Underway t inside n v first w x y met
+    on-the-way = ⊎-elim (λ g. g) (λ h. absurd (⊎-elim (λ (z : met ≡ 0). omega (arith, h .turned, z)) (λ ne. ne (h .home)) (turns met w first .0 test))) s
 
     pub ring-edge : SkinEdge t inside v w x y
-    ring-edge = (underway .from, underway .here)
+    ring-edge = ⊎-elim (λ u. u .2) (λ g. (g .from, g .here)) on-the-way
 
     module _ {told : Bool} {p q end : ℕ} (h : Landed t inside n v w x y told p q end) (e : not told ≡ false) where
       two : count n (farEdge t inside v w) ≡ 2
       two = two-edges h e
 
-      ahead : Next (Joins n (farEdge t inside v)) (underway .from) w end
-      ahead = next-end (underway .here) h two
+      ahead : (g : Underway t inside n v first w x y met) → Next (Joins n (farEdge t inside v)) (g .from) w end
+      ahead g = next-end (g .here) h two
 
       pub ring-few : met + 1 ≤ n
-      ring-few = follow-few n (far-back t inside v) (loopless t inside v) (underway .way) two ahead
+      ring-few =
+          ⊎-elim (λ (z, _, (_, here)). omega (arith, z, joins here .0)) (λ g. follow-few n (far-back t inside v) (loopless t inside v) (g .way) two (ahead g)) on-the-way
 
       pub ring-more : Ringing t inside n v first end p q (met + 1)
-      ring-more =
-          ⊎-elim (λ (home : end ≡ first). inr (record {
-            second = underway .second;
-            from = underway .from;
-            last = w;
-            before = met;
-            seen = underway .seen;
-            way = underway .way;
-            turned = refl;
-            two = two;
-            next = ahead;
-            home = home;
-          })) (λ ne. inl (record {
-            second = underway .second;
-            from = w;
-            seen = with (underway .seen) end;
-            way = follow-more n (far-back t inside v) (loopless t inside v) (underway .way) two ahead ne;
-            here = seen-back (h .there);
-            away = ne;
-          })) (same-or-not end first)
+      ring-more = ⊎-elim begins goes on-the-way
+        where
+          begins : Unturned t inside v first w x y met → Ringing t inside n v first end p q (met + 1)
+          begins (z, at, _) =
+              let near = joins (h .there) in
+              rw (z, ← at) (inl (inr (record {
+                second = end;
+                from = w;
+                seen = pair w end;
+                way = follow-begins n (far-back t inside v) (loopless t inside v) w end near two;
+                here = seen-back (h .there);
+                away = λ (q : end ≡ w). loopless t inside v w end (near .2) (sym q);
+              })))
+
+          goes : Underway t inside n v first w x y met → Ringing t inside n v first end p q (met + 1)
+          goes g =
+              ⊎-elim (λ (home : end ≡ first). inr (record {
+                second = g .second;
+                from = g .from;
+                last = w;
+                before = met;
+                seen = g .seen;
+                way = g .way;
+                turned = refl;
+                two = two;
+                next = ahead g;
+                home = home;
+              })) (λ ne. inl (inr (record {
+                second = g .second;
+                from = w;
+                seen = with (g .seen) end;
+                way = follow-more n (far-back t inside v) (loopless t inside v) (g .way) two (ahead g) ne;
+                here = seen-back (h .there);
+                away = ne;
+              }))) (same-or-not end first)
 
   -- one ring exactly if as many ends were turned at as v has skin triangles
-  pub ring-ends : {first w x y met : ℕ} → Ringing t inside n v first w x y met → w ≡ first → {total : ℕ} → total ≡ count (4 * t .rows) (shownAt t inside v)
-      → eqb met total ≡ oneRing t inside n v
-  ring-ends {first} {w} {x} {y} {met} s back {total} is = go s
+  pub ring-ends : {first w x y met : ℕ} → Ringing t inside n v first w x y met → (eqb met 0 || not (eqb w first)) ≡ false → {total : ℕ}
+      → total ≡ count (4 * t .rows) (shownAt t inside v) → eqb met total ≡ oneRing t inside n v
+  ring-ends {first} {w} {x} {y} {met} s test {total} is = go s
     where
       all-ends : endsOf n (farEdge t inside v) ≡ total + total
       all-ends = ends-twice (closed .paired) four inside v ∙ rw is
 
       go : Ringing t inside n v first w x y met → eqb met total ≡ oneRing t inside n v
-      go (inl g) = absurd (g .away back)
+      go (inl (inl (z, _, _))) = absurd (not-both (turns met w first .1 (inl z)) test)
+      go (inl (inr g)) = absurd (not-both (turns met w first .1 (inr (g .away))) test)
       go (inr h) =
           let closes = ring-closes n (far-back t inside v) (loopless t inside v) (h .way) (h .two) (h .next) (h .home) in
           same-test (eqb met total) (oneRing t inside n v)

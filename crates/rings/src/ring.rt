@@ -109,25 +109,11 @@ fn follow(
         × (total ≡ count (4 * rowsIn (now rows)) (shownAt (tableIn (now rows)) (insideIn (now marks)) vertex)) ⌝ }
     ensures { λ r. ⌜ r ≡ oneRing (tableIn (now (rows .entry))) (insideIn (now (marks .entry))) ids vertex ⌝ }
 {
-    let start = turn_at(
-        rows,
-        neighbours,
-        marks,
-        ids,
-        low,
-        vertex,
-        first,
-        inner,
-        outer,
-    );
-    if !start.two {
-        return false;
-    }
-    let mut x = start.inner;
-    let mut y = start.outer;
-    let mut end = start.end;
-    let mut met = 1;
-    while end != first {
+    let mut x = inner;
+    let mut y = outer;
+    let mut end = first;
+    let mut met = 0;
+    while (met == 0) | (end != first) {
         let next = turn_at(rows, neighbours, marks, ids, low, vertex, end, x, y);
         if !next.two {
             return false;
