@@ -17,7 +17,7 @@ int main(void)
     uint32_t outcome[TRACK_OUTCOME_LEN];
     int refused = 0, proposals = job[8] + 256 * job[9];
 
-    track_run(job, job_len, TRACK_RISING, answers, TRACK_MOST_ANSWERS_LEN,
+    track_run(job, job_len, answers, TRACK_MOST_ANSWERS_LEN,
               final_marks, TRACK_MOST_FINAL_MARKS_LEN, triangles,
               TRACK_MOST_TRIANGLES_LEN, work, TRACK_MOST_WORK_LEN, outcome);
     for (int i = 0; i < proposals; i++) {

@@ -24,17 +24,15 @@ int main(void)
     uint32_t outcome[TRACK_OUTCOME_LEN];
     int well = 1;
 
-    track_run(NULL, 0, TRACK_RISING, NULL, 0, NULL, 0, NULL, 0, NULL, 0,
-              outcome);
+    track_run(NULL, 0, NULL, 0, NULL, 0, NULL, 0, NULL, 0, outcome);
     well &= gave(outcome, TRACK_CODE_SHORT, "without a job");
 
-    track_run(job, job_len, TRACK_RISING, NULL, 0, NULL, 0, NULL, 0, NULL, 0,
-              outcome);
+    track_run(job, job_len, NULL, 0, NULL, 0, NULL, 0, NULL, 0, outcome);
     well &= gave(outcome, TRACK_CODE_ROOM, "without buffers");
 
-    track_run(job, job_len, TRACK_RISING, NULL, 0,
-              final_marks, TRACK_MOST_FINAL_MARKS_LEN, triangles,
-              TRACK_MOST_TRIANGLES_LEN, work, TRACK_MOST_WORK_LEN, outcome);
+    track_run(job, job_len, NULL, 0, final_marks, TRACK_MOST_FINAL_MARKS_LEN,
+              triangles, TRACK_MOST_TRIANGLES_LEN, work, TRACK_MOST_WORK_LEN,
+              outcome);
     well &= gave(outcome, TRACK_CODE_RUN, "without answers");
     return !well;
 }

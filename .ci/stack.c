@@ -4,8 +4,7 @@
  * Each job runs on a stack of its own that was painted before, where nothing
  * else is called; from the caller's frame down to the deepest byte that changed
  * is what the call took. A byte may be written with the paint's own value, so
- * each job runs once with each of two paints, and that in either order of its
- * triangles. */
+ * each job runs once with each of two paints. */
 #include <stdio.h>
 #include <stdlib.h>
 #include <string.h>
@@ -17,7 +16,6 @@ static unsigned char stack[PAINTED];
 
 static uint8_t job[TRACK_MOST_JOB_LEN + 1];
 static size_t job_len;
-static uint32_t outward;
 static uint8_t answers[TRACK_MOST_ANSWERS_LEN];
 static uint8_t final_marks[TRACK_MOST_FINAL_MARKS_LEN];
 static uint32_t triangles[TRACK_MOST_TRIANGLES_LEN];
@@ -47,7 +45,7 @@ static void read_job(const char *name)
 static void call(void)
 {
     callers_frame = (unsigned char *)__builtin_frame_address(0);
-    track_run(job, job_len, outward, answers, TRACK_MOST_ANSWERS_LEN,
+    track_run(job, job_len, answers, TRACK_MOST_ANSWERS_LEN,
               final_marks, TRACK_MOST_FINAL_MARKS_LEN,
               triangles, TRACK_MOST_TRIANGLES_LEN,
               work, TRACK_MOST_WORK_LEN, outcome);
@@ -75,14 +73,12 @@ static size_t bytes_taken(int paint)
 int main(int argc, char **argv)
 {
     static const int paints[] = {0x55, 0xaa};
-    static const uint32_t orders[] = {TRACK_RISING, TRACK_OUTWARD};
     size_t most = 0;
     const char *most_on = NULL;
     for (int i = 1; i < argc; i++) {
         read_job(argv[i]);
-        for (int run = 0; run < 4; run++) {
-            outward = orders[run / 2];
-            size_t bytes = bytes_taken(paints[run % 2]);
+        for (int run = 0; run < 2; run++) {
+            size_t bytes = bytes_taken(paints[run]);
             if (bytes > most) {
                 most = bytes;
                 most_on = argv[i];

@@ -32,7 +32,7 @@ int main(int argc, char **argv)
     fclose(file);
 
     uint32_t outcome[TRACK_OUTCOME_LEN];
-    track_run(job, job_len, TRACK_RISING, answers, TRACK_MOST_ANSWERS_LEN,
+    track_run(job, job_len, answers, TRACK_MOST_ANSWERS_LEN,
               final_marks, TRACK_MOST_FINAL_MARKS_LEN, triangles,
               TRACK_MOST_TRIANGLES_LEN, work, TRACK_MOST_WORK_LEN, outcome);
 

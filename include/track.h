@@ -16,7 +16,8 @@
  *
  *     at byte         there stand
  *     0               V, N, P, 32, 32 + 16N, 32 + 17N, the length of the file,
- *                     and 0 without points or 1 with points
+ *                     and an enum track_word_7: whether there are points, and
+ *                     how the skin is listed
  *     32              N rows of four words, the ids of one tetrahedron at its
  *                     corners 0 to 3
  *     32 + 16N        N marks of one byte, 1 inside or 0 outside
@@ -74,8 +75,9 @@ enum track_kind {
     TRACK_KIND_REMOVE = 2
 };
 
-/* How the ids of a skin triangle stand in the list. Either way it has the same
- * triangles in the same places.
+/* What word 7 of a job says: whether it has points, and how the ids of each skin
+ * triangle stand in the list. Either way it has the same triangles in the same
+ * places. Any other value is TRACK_CODE_LAYOUT.
  *
  * Rising ids say nothing of the side on which the inside lies. Outward, the
  * lowest id is first, and for the triangle a, b, c the normal (b - a) x (c - a)
@@ -86,11 +88,18 @@ enum track_kind {
  * (b - a) x (c - a) . (d - a) is below zero, so d lies behind; where the inside
  * row is outer, the product for the fourth corner of the outside row is above
  * zero, so that lies in front. Each edge of the skin is then passed once each
- * way. A job without points is listed with rising ids, whatever is asked for. */
-enum track_order {
-    TRACK_RISING = 0,
-    TRACK_OUTWARD = 1
+ * way.
+ *
+ * Earlier the caller chose the order, by a parameter of track_run that is gone,
+ * and 1 in word 7 said no more than that there are points. To have rising ids of
+ * such a job, write 3 there: the word's low byte is at TRACK_WORD_7_AT, and its
+ * other three are 0. */
+enum track_word_7 {
+    TRACK_WORD_7_NO_POINTS = 0, /* the ids of each triangle rise */
+    TRACK_WORD_7_OUTWARD = 1,   /* points; each triangle is outward */
+    TRACK_WORD_7_RISING = 3     /* points; the ids of each triangle rise */
 };
+#define TRACK_WORD_7_AT 28
 
 /* A call takes at most so many bytes of stack, what the caller passes on the
  * stack included. With less the system stops the program, unless it is a thread
@@ -135,7 +144,7 @@ enum track_code {
     TRACK_CODE_RING = 12,    /* the starting skin is not clean; place: the
                                 lowest skin vertex whose far edges do not form
                                 one ring */
-    /* With points only, whatever order is asked for. */
+    /* With points only, in either order. */
     TRACK_CODE_POINT = 13,   /* a coordinate outside its limits, or the point of
                                 id 0 not three zeros; place: the lowest such id,
                                 also one that no row holds */
@@ -186,17 +195,15 @@ extern "C" {
  * A refusal leaves answers, final_marks and triangles as they were.
  *
  * job          the bytes of the file, only read
- * outward      TRACK_RISING for rising ids; anything else asks for outward
- *              triangles
  * answers      TRACK_ANSWERS_LEN bytes. Code 0 leaves the P answers, an enum
  *              track_answer each, in the order of the proposals.
  * final_marks  TRACK_FINAL_MARKS_LEN bytes. Code 0 leaves the N marks after the
  *              last proposal.
  * triangles    TRACK_TRIANGLES_LEN words. Code 0 leaves the skin after the last
- *              proposal, three ids for each triangle in the order asked for,
- *              as many triangles as the outcome says: by inside row, then by
- *              the corner of the row that the triangle leaves out, 0 to 3.
- *              There are at most 2N.
+ *              proposal, three ids for each triangle in the order that word 7
+ *              asks for, as many triangles as the outcome says: by inside row,
+ *              then by the corner of the row that the triangle leaves out, 0 to
+ *              3. There are at most 2N.
  * work         TRACK_WORK_LEN words. Code 0 leaves the neighbour list there:
  *              word 4r + c is the row across the triangle of row r that leaves
  *              out its corner c. Codes 1 to 4 leave work as it was; codes 5 to
@@ -204,7 +211,7 @@ extern "C" {
  * outcome      TRACK_OUTCOME_LEN words, all written by every call; never null
  *
  * Of each buffer, what stands behind these bytes and words is never changed. */
-void track_run(const uint8_t *job, size_t job_len, uint32_t outward,
+void track_run(const uint8_t *job, size_t job_len,
                uint8_t *answers, size_t answers_len,
                uint8_t *final_marks, size_t final_marks_len,
                uint32_t *triangles, size_t triangles_len,

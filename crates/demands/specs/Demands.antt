@@ -1,17 +1,15 @@
--- The three demands, whole, of one run: the bytes of a job file, whether outward triangles were asked for, the four buffers as lent, what
--- was returned, and the buffers as left; and what document 02 promises beside them. `demands::run`, which is `track::run`, has them for its
--- contract.
+-- The three demands, whole, of one run: the bytes of a job file, the four buffers as lent, what was returned, and the buffers as left; and
+-- what document 02 promises beside them. `demands::run`, which is `track::run`, has them for its contract.
 use mathlib.Core.Path.{_≡_}
-use mathlib.Core.Logic.{_⊎_, _↔_, _≢_}
-use mathlib.Core.Bool.{Bool, true, false}
-use mathlib.Core.Option.{some, none}
+use mathlib.Core.Logic.{_↔_, _≢_}
+use mathlib.Core.Option.{some}
 use mathlib.Core.List.{List, _++_, flatten}
 use Prim.Native.Nat.{ℕ, _+_, _*_, _≤_, _<_}
 use lib.ListN.{length, getD, take, drop, replicate}
 use Rattle.rules.specs.Table.{neighbourList}
 use Rattle.rules.specs.Points.{Point}
 use Rattle.rules.specs.Proposals.{Proposal, RefusedByCases, taken}
-use Rattle.rules.specs.Job.{track, headerOf, Job, jobOf, answersOf, standing, finalOf, skinWith, listedWith, Lent, workRoom, written, codes, run}
+use Rattle.rules.specs.Job.{track, headerOf, Job, jobOf, answersOf, standing, finalOf, skinWith, listedOf, Lent, workRoom, written, codes, run}
 use Rattle.rules.specs.Made.{withProposals, cutTo, remade}
 use Rattle.rules.specs.Laws.Count.{ExactlyOne, TheOther}
 use Rattle.rules.specs.Laws.Lists.{Among, Distinct}
@@ -43,7 +41,7 @@ PassesAt job k = PassesEarlier (job .table) (standing job k) (proposalAt job k)
 abbrev pub OnSkinAt : Job → ℕ → ℕ → Type 0
 OnSkinAt job k f = TrianglesOnSkin (job .table) (Inside (standing job k)) (proposalAt job k .row) f
 
-module _ (bytes : List ℕ) (outward : Bool) (before : Lent) (o : Outcome) (after : Lent) where
+module _ (bytes : List ℕ) (before : Lent) (o : Outcome) (after : Lent) where
   abbrev pub job : Job
   job = jobOf track bytes
 
@@ -54,9 +52,13 @@ module _ (bytes : List ℕ) (outward : Bool) (before : Lent) (o : Outcome) (afte
   abbrev pub proposals : ℕ
   proposals = headerOf bytes .proposals
 
-  -- the skin at the end, in the order asked for; without points, or where outward is not asked for, it is `skinWith` (`OutwardSkin`)
+  -- word 7: 0 without points, 1 with points and a list that is outward, 3 with points and a list whose ids rise; any other is code 3
+  abbrev pub word7 : ℕ
+  word7 = headerOf bytes .mode
+
+  -- the skin at the end, in the order asked for: what that means for each word 7 is said in `OutwardSkin`
   abbrev pub listed : List (List ℕ)
-  listed = listedWith outward job (finalOf job)
+  listed = listedOf job
 
   -- byte k of answers
   abbrev pub answerAt : ℕ → ℕ
@@ -79,7 +81,7 @@ module _ (bytes : List ℕ) (outward : Bool) (before : Lent) (o : Outcome) (afte
     pub work-cleared : 5 ≤ o .code → after .work ≡ replicate (workRoom track (headerOf bytes)) 0 ++ drop (workRoom track (headerOf bytes)) (before .work)
 
   -- Demand 2. In an accepted job each proposal is answered by the listed tests and Lhuillier's five cases, and the skin list is exactly
-  -- the triangles with one tetrahedron inside and one outside.
+  -- the triangles with one tetrahedron inside and one outside, in the order asked for.
   pub record Demand2 : Type 0 where
     -- answer k is 1 + i exactly if row 1 + i of the table of answers holds of proposal k on the marks then standing and no row before it
     -- does, and 0 exactly if none does
@@ -138,13 +140,13 @@ module _ (bytes : List ℕ) (outward : Bool) (before : Lent) (o : Outcome) (afte
     pub as-many : length backwards ≡ o .taken
     pub no-more : length backwards ≤ proposals
     -- the job of the same rows with the final marks and these proposals is run, all its answers are 0, and it leaves the starting marks
-    pub undone : (choice : Bool) (lent : Lent) → (RoomShort track (withProposals (headerOf bytes) (length backwards)) lent → ⊥)
-        → (run track choice (remade track marksBack backwards bytes) lent .code ≡ 0)
-        × (run track choice (remade track marksBack backwards bytes) lent .left .answers ≡ written (replicate (length backwards) 0) (lent .answers))
-        × (run track choice (remade track marksBack backwards bytes) lent .left .finalMarks ≡ written (job .marks) (lent .finalMarks))
+    pub undone : (lent : Lent) → (RoomShort track (withProposals (headerOf bytes) (length backwards)) lent → ⊥)
+        → (run track (remade track marksBack backwards bytes) lent .code ≡ 0)
+        × (run track (remade track marksBack backwards bytes) lent .left .answers ≡ written (replicate (length backwards) 0) (lent .answers))
+        × (run track (remade track marksBack backwards bytes) lent .left .finalMarks ≡ written (job .marks) (lent .finalMarks))
     -- growing stops when the time is up: the job cut to its first k proposals is run, and leaves the marks that stand after them
-    pub cut : (k : ℕ) → k ≤ proposals → (choice : Bool) (lent : Lent) → (RoomShort track (withProposals (headerOf bytes) k) lent → ⊥)
-        → (run track choice (cutTo track k bytes) lent .code ≡ 0) × (run track choice (cutTo track k bytes) lent .left .finalMarks ≡ written (standing job k) (lent .finalMarks))
+    pub cut : (k : ℕ) → k ≤ proposals → (lent : Lent) → (RoomShort track (withProposals (headerOf bytes) k) lent → ⊥)
+        → (run track (cutTo track k bytes) lent .code ≡ 0) × (run track (cutTo track k bytes) lent .left .finalMarks ≡ written (standing job k) (lent .finalMarks))
 
   -- Document 02 (ii): the skin of an accepted job is finite. At every step its outer rows are alike, all inside or all outside; so no skin
   -- triangle holds id 0, and of the two rows at a skin triangle, one inside and one outside, at most one is outer.
@@ -156,20 +158,20 @@ module _ (bytes : List ℕ) (outward : Bool) (before : Lent) (o : Outcome) (afte
     -- of the ids that are left at the front of triangles none is 0
     pub listed-finite : Among 0 (take (3 * o .triangles) (after .triangles)) → ⊥
 
-  -- Document 02 (iii): the skin in the order asked for. Outward triangles tell which side is up. There are points exactly if word 7 is 1,
-  -- and they stand behind the proposals (`points-exactly` and `point-stands` of `Reading.File`).
+  -- Document 02 (iii) and (v): the skin in the order that word 7 asks for. Outward triangles tell which side is up. There are points exactly
+  -- if word 7 is 1 or 3, and they stand behind the proposals (`points-exactly` and `point-stands` of `Reading.File`).
   pub record OutwardSkin : Type 0 where
-    -- rising, unless outward was asked for and there are points
-    pub rising-unless : (outward ≡ false) ⊎ (job .points ≡ none) → listed ≡ skinWith job (finalOf job)
+    -- rising, unless word 7 is 1
+    pub rising-unless : word7 ≢ 1 → listed ≡ skinWith job (finalOf job)
     -- the same triangles in the same order, in some of them the last two ids exchanged
     pub as-rising : AsRising listed (skinWith job (finalOf job))
-    -- where outward was asked for, each of the triangles left has its inside row's fourth corner behind it, or, where that row is outer, its
-    -- outside row's fourth corner in front
-    pub faces-outward : outward ≡ true → (at : ℕ → Point) → job .points ≡ some at → (k : ℕ) → k < o .triangles
-        → FacesOutward (job .table) at (Inside (finalOf job)) (listedId (after .triangles) k 0) (listedId (after .triangles) k 1) (listedId (after .triangles) k 2)
+    -- where word 7 is 1 there are points, and each of the triangles left has its inside row's fourth corner behind it, or, where that row is
+    -- outer, its outside row's fourth corner in front
+    pub faces-outward : word7 ≡ 1 → (at : ℕ → Point) × (job .points ≡ some at) × ((k : ℕ) → k < o .triangles
+        → FacesOutward (job .table) at (Inside (finalOf job)) (listedId (after .triangles) k 0) (listedId (after .triangles) k 1) (listedId (after .triangles) k 2))
     -- and each edge x y of a skin triangle is passed once each way: exactly one of the triangles left passes from x to y, and exactly one
     -- from y to x
-    pub each-way : outward ≡ true → (at : ℕ → Point) → job .points ≡ some at → (x y w : ℕ) → SkinTriangle (job .table) (Inside (finalOf job)) x y w
+    pub each-way : word7 ≡ 1 → (x y w : ℕ) → SkinTriangle (job .table) (Inside (finalOf job)) x y w
         → ExactlyOne (o .triangles) (Passes (after .triangles) x y) × ExactlyOne (o .triangles) (Passes (after .triangles) y x)
 
   pub record Demands : Type 0 where

@@ -1,6 +1,5 @@
 -- Document 02 (ii) is kept: the skin is finite.
 use mathlib.Core.Path.{_≡_, refl, sym, ap, _∙_, subst}
-use mathlib.Core.Bool.{Bool}
 use mathlib.Core.List.{List, flatten}
 use Prim.Native.Nat.{ℕ, _*_}
 use lib.ListN.{length, take}
@@ -8,7 +7,7 @@ use lib.Seq.{take-at}
 use Rattle.rules.specs.Skin.{triangle}
 use Rattle.rules.specs.Outward.{triangleAs}
 use Rattle.rules.specs.Proposals.{insideIn}
-use Rattle.rules.specs.Job.{track, headerOf, Job, jobOf, standing, finalOf, listedWith, Lent, written, run}
+use Rattle.rules.specs.Job.{track, headerOf, Job, jobOf, standing, finalOf, listedOf, Lent, written, run}
 use Rattle.rules.specs.Laws.Lists.{Among, flatten-in}
 use Rattle.rules.specs.Laws.Job.{job-corners}
 use Rattle.rules.specs.Reading.Outer.{OuterAlike, one-outer}
@@ -22,29 +21,29 @@ use Rattle.track.specs.Outcomes.{result}
 use Rattle.demands.specs.Demands.{Demand2, FiniteSkin}
 use Rattle.demands.specs.Grown.{job-accepted, demand-2}
 
-module _ (bytes : List ℕ) (outward : Bool) (before : Lent) {o : Outcome} {after : Lent} (ran : result o after ≡ run track outward bytes before) (zero-code : o .code ≡ 0) where
+module _ (bytes : List ℕ) (before : Lent) {o : Outcome} {after : Lent} (ran : result o after ≡ run track bytes before) (zero-code : o .code ≡ 0) where
   abbrev job : Job
   job = jobOf track bytes
 
   alike : (k : ℕ) → OuterAlike (job .table) (standing job k)
-  alike = job-alike track outward bytes before refl (job-accepted bytes outward before ran zero-code)
+  alike = job-alike track bytes before refl (job-accepted bytes before ran zero-code)
 
-  grown : Demand2 bytes outward before o after
-  grown = demand-2 bytes outward before ran zero-code
+  grown : Demand2 bytes before o after
+  grown = demand-2 bytes before ran zero-code
 
   -- as many triangles are left as were counted
-  pub listed-many : length (listedWith outward job (finalOf job)) ≡ o .triangles
+  pub listed-many : length (listedOf job) ≡ o .triangles
   listed-many = skin-same-length (job .table) (insideIn (finalOf job)) _ ∙ sym (grown .triangles-counted)
 
   -- the front of triangles is the skin in the order asked for
-  listed : take (3 * o .triangles) (after .triangles) ≡ flatten (listedWith outward job (finalOf job))
+  listed : take (3 * o .triangles) (after .triangles) ≡ flatten (listedOf job)
   unfolding written
   listed =
       ap (take (3 * o .triangles)) (grown .triangles-left)
-      ∙ take-at (flatten (listedWith outward job (finalOf job))) _ _
-      (skin-words (job .table) (insideIn (finalOf job)) _ (three-each (job .table) outward (job .points) (job-corners track bytes)) ∙ ap (λ (n : ℕ). 3 * n) listed-many)
+      ∙ take-at (flatten (listedOf job)) _ _
+      (skin-words (job .table) (insideIn (finalOf job)) _ (three-each (job .table) (job .outward) (job .points) (job-corners track bytes)) ∙ ap (λ (n : ℕ). 3 * n) listed-many)
 
-  pub skin-finite : FiniteSkin bytes outward before o after
+  pub skin-finite : FiniteSkin bytes before o after
   skin-finite = record {
     outer-alike = alike;
     no-infinite-vertex = λ k. finite-skin (job .table) (standing job k) (job-corners track bytes) (alike k);
@@ -52,8 +51,8 @@ module _ (bytes : List ℕ) (outward : Bool) (before : Lent) {o : Outcome} {afte
     listed-finite = λ m.
         let t = job .table in
         let told = inside-reads (finalOf job) in
-        let (ids, i, zero) = flatten-in 0 (listedWith outward job (finalOf job)) (subst (λ (xs : List ℕ). Among 0 xs) listed m) in
-        let x = skin-listed t (insideIn (finalOf job)) (triangleAs t outward (job .points)) told ids .0 i in
+        let (ids, i, zero) = flatten-in 0 (listedOf job) (subst (λ (xs : List ℕ). Among 0 xs) listed m) in
+        let x = skin-listed t (insideIn (finalOf job)) (triangleAs t (job .outward) (job .points)) told ids .0 i in
         let rising = triangle t (x .row) (x .corner) in
         let stands = skin-listed t (insideIn (finalOf job)) (triangle t) told rising .1 (record {
           row = x .row;
@@ -66,5 +65,5 @@ module _ (bytes : List ℕ) (outward : Bool) (before : Lent) {o : Outcome} {afte
         }) in
         finite-skin (job .table) (finalOf job) (job-corners track bytes) (subst (OuterAlike (job .table)) (sym (grown .ends)) (alike (headerOf bytes .proposals))) rising
         (grown .listed-exactly rising .0 stands)
-        (listed-ids t outward (job .points) (job-corners track bytes) (x .row) (x .corner) (x .corner-below) 0 (subst (λ (xs : List ℕ). Among 0 xs) (x .ids-are) zero));
+        (listed-ids t (job .outward) (job .points) (job-corners track bytes) (x .row) (x .corner) (x .corner-below) 0 (subst (λ (xs : List ℕ). Among 0 xs) (x .ids-are) zero));
   }

@@ -1,6 +1,5 @@
 -- Demand 2 is kept.
 use mathlib.Core.Path.{_≡_, refl, sym, ap, _∙_, subst}
-use mathlib.Core.Bool.{Bool}
 use mathlib.Core.List.{List, flatten}
 use Prim.Native.Nat.{ℕ, _+_, _*_, _<_}
 use native.Mathlib.Numerals.{add-one}
@@ -10,7 +9,7 @@ use lib.Seq.{take-all, take-at, take-suc}
 use Rattle.rules.specs.Table.{neighbourList}
 use Rattle.rules.specs.Skin.{triangle}
 use Rattle.rules.specs.Proposals.{insideIn, answer, marksAfter, finalMarks, taken}
-use Rattle.rules.specs.Job.{track, headerOf, Job, jobOf, answersOf, standing, finalOf, skinWith, listedWith, Lent, written, Result, accepted, run}
+use Rattle.rules.specs.Job.{track, headerOf, Job, jobOf, answersOf, standing, finalOf, skinWith, listedOf, Lent, written, Result, accepted, run}
 use Rattle.rules.specs.Laws.Count.{TheOther}
 use Rattle.rules.specs.Laws.Written.{written-at}
 use Rattle.rules.specs.Laws.Proposals.{answer-at, final-more}
@@ -28,18 +27,18 @@ use Rattle.track.specs.Outcomes.{result}
 use Rattle.demands.specs.Demands.{proposalAt, Demand2}
 use Rattle.demands.specs.Given.{code-is}
 
-module _ (bytes : List ℕ) (outward : Bool) (before : Lent) {o : Outcome} {after : Lent} (ran : result o after ≡ run track outward bytes before) (zero-code : o .code ≡ 0) where
+module _ (bytes : List ℕ) (before : Lent) {o : Outcome} {after : Lent} (ran : result o after ≡ run track bytes before) (zero-code : o .code ≡ 0) where
   abbrev job : Job
   job = jobOf track bytes
 
-  pub job-accepted : run track outward bytes before .code ≡ 0
-  job-accepted = sym (code-is bytes outward before ran) ∙ zero-code
+  pub job-accepted : run track bytes before .code ≡ 0
+  job-accepted = sym (code-is bytes before ran) ∙ zero-code
 
   pub job-closed : Closed (job .table) (job .ids)
-  job-closed = accepted-closed track outward bytes before job-accepted
+  job-closed = accepted-closed track bytes before job-accepted
 
-  is : result o after ≡ accepted outward job before
-  is = ran ∙ run-accepted track outward bytes before (sym (run-code track outward bytes before) ∙ job-accepted)
+  is : result o after ≡ accepted job before
+  is = ran ∙ run-accepted track bytes before (sym (run-code track bytes before) ∙ job-accepted)
 
   pub answers-are : after .answers ≡ written (answersOf job) (before .answers)
   unfolding accepted
@@ -49,7 +48,7 @@ module _ (bytes : List ℕ) (outward : Bool) (before : Lent) {o : Outcome} {afte
   unfolding accepted
   marks-are = ap (λ (r : Result). r .left .finalMarks) is
 
-  triangles-are : after .triangles ≡ written (flatten (listedWith outward job (finalOf job))) (before .triangles)
+  triangles-are : after .triangles ≡ written (flatten (listedOf job)) (before .triangles)
   unfolding accepted
   triangles-are = ap (λ (r : Result). r .left .triangles) is
 
@@ -104,7 +103,7 @@ module _ (bytes : List ℕ) (outward : Bool) (before : Lent) {o : Outcome} {afte
             ∙ across-other t r c other,
       )
 
-  pub demand-2 : Demand2 bytes outward before o after
+  pub demand-2 : Demand2 bytes before o after
   unfolding finalMarks
   demand-2 =
       let t = job .table in

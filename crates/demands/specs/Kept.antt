@@ -1,7 +1,6 @@
 -- The demands follow from the contract of `track::run`, and say all that it says: they leave one possible result.
 use mathlib.Core.Path.{_≡_, refl, sym, ap, ap₂, _∙_}
 use mathlib.Core.Logic.{_⊎_, ⊎-elim, _≢_}
-use mathlib.Core.Bool.{Bool}
 use mathlib.Core.List.{List}
 use Prim.Native.Nat.{ℕ, _+_, _-_, _<_}
 use native.Mathlib.Omega.{arith}
@@ -20,18 +19,18 @@ use Rattle.demands.specs.Rings.{demand-3}
 use Rattle.demands.specs.Finite.{skin-finite}
 use Rattle.demands.specs.Outwards.{skin-outward}
 
-module _ (bytes : List ℕ) (outward : Bool) (before : Lent) where
-  pub kept : {o : Outcome} {after : Lent} → result o after ≡ run track outward bytes before → Demands bytes outward before o after
+module _ (bytes : List ℕ) (before : Lent) where
+  pub kept : {o : Outcome} {after : Lent} → result o after ≡ run track bytes before → Demands bytes before o after
   kept ran = record {
-    one = demand-1 bytes outward before ran;
-    two = demand-2 bytes outward before ran;
-    three = demand-3 bytes outward before ran;
-    finite = skin-finite bytes outward before ran;
-    outwards = skin-outward bytes outward before ran;
+    one = demand-1 bytes before ran;
+    two = demand-2 bytes before ran;
+    three = demand-3 bytes before ran;
+    finite = skin-finite bytes before ran;
+    outwards = skin-outward bytes before ran;
   }
 
   -- any two results that keep them are equal
-  module _ {o p : Outcome} {after left : Lent} (d : Demands bytes outward before o after) (e : Demands bytes outward before p left) where
+  module _ {o p : Outcome} {after left : Lent} (d : Demands bytes before o after) (e : Demands bytes before p left) where
     abbrev Same : Type 0
     Same = (o ≡ p) × (after ≡ left)
 
@@ -74,9 +73,9 @@ module _ (bytes : List ℕ) (outward : Bool) (before : Lent) where
     demands-settle = ⊎-elim accepted-same refused-same (same-or-not (o .code) 0)
 
   -- so they say all that the contract says
-  pub say-all : {o : Outcome} {after : Lent} → Demands bytes outward before o after → result o after ≡ run track outward bytes before
+  pub say-all : {o : Outcome} {after : Lent} → Demands bytes before o after → result o after ≡ run track bytes before
   say-all d =
-      let r = run track outward bytes before in
-      let own : Demands bytes outward before (record { code = r .code; place = r .place; taken = r .taken; triangles = r .triangles }) (r .left) = kept refl in
+      let r = run track bytes before in
+      let own : Demands bytes before (record { code = r .code; place = r .place; taken = r .taken; triangles = r .triangles }) (r .left) = kept refl in
       let (o-is, after-is) = demands-settle d own in
       ap₂ result o-is after-is

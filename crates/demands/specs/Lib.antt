@@ -4,7 +4,7 @@
 --     Grown    demand 2 is kept
 --     Rings    demand 3 is kept
 --     Finite   document 02 (ii) is kept: the skin is finite
---     Outwards document 02 (iii) is kept: the skin in the order asked for
+--     Outwards document 02 (iii) and (v) are kept: the skin in the order asked for
 --     Kept     all of it follows from the contract of `track::run`, and says all that it says
 --     Settled  each public call leaves one possible result
 --     ShutOut  versions that the demands shut out

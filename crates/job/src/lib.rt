@@ -4,7 +4,7 @@ ghost use mathlib.Core.Path.{_≡_};
 ghost use Prim.Native.Nat.{_+_, _*_, _≤_, _<_};
 ghost use lib.ListN.{length};
 ghost use Rattle.rules.specs.First.{firstMatch};
-ghost use Rattle.rules.specs.Job.{track, headerWord, mostIds, mostRows, mostProposals, within, withinLimits, laidOut, rowsAt, marksAt, proposalsAt, pointsAt, hasPoints, pointBytes, wholeLength, workRoom, listRoom, shortRooms, layoutTests};
+ghost use Rattle.rules.specs.Job.{track, headerWord, mostIds, mostRows, mostProposals, within, withinLimits, laidOut, rowsAt, marksAt, proposalsAt, pointsAt, hasPoints, asksOutward, pointBytes, wholeLength, workRoom, listRoom, shortRooms, layoutTests};
 ghost use Rattle.job.specs.Reading.{meant, header, verdictOf, headerIn};
 
 // V, N, P and word 7.
@@ -78,6 +78,13 @@ impl Header {
     // V points stand behind the proposals.
     pub fn has_points(self) -> bool
         ensures { λ r. ⌜ r ≡ hasPoints track (meant self) ⌝ }
+    {
+        (self.mode == 1) | (self.mode == 3)
+    }
+
+    // The skin is to be listed outward; else the ids of each triangle rise.
+    pub fn asks_outward(self) -> bool
+        ensures { λ r. ⌜ r ≡ asksOutward track (meant self) ⌝ }
     {
         self.mode == 1
     }

@@ -58,7 +58,7 @@ fn show(
     triangles: &mut [u32],
     work: &mut [u32],
 ) {
-    let r = run(job, false, answers, final_marks, triangles, work);
+    let r = run(job, answers, final_marks, triangles, work);
     print_outcome(name, r);
     print_bytes(b"answers", answers);
     print_bytes(b"final marks", final_marks);

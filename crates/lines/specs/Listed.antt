@@ -1,7 +1,7 @@
 -- What a run gives, and the listing of it.
 use mathlib.Core.Path.{_≡_, refl, sym, ap, _∙_}
-use mathlib.Core.Logic.{inl, _≢_}
-use mathlib.Core.Bool.{false, cond}
+use mathlib.Core.Logic.{_≢_}
+use mathlib.Core.Bool.{cond}
 use mathlib.Core.List.{List, flatten}
 use Prim.Native.Nat.{ℕ, _+_, _*_, _≤_}
 use native.Mathlib.Omega.{arith}
@@ -9,14 +9,14 @@ use lib.Dec.{eqb}
 use lib.ListN.{length, replicate, length-replicate}
 use borrow.Author.Tests.{ne-eqb}
 use Rattle.rules.specs.First.{firstMatch}
-use Rattle.rules.specs.Skin.{triangle}
+use Rattle.rules.specs.Outward.{triangleAs}
 use Rattle.rules.specs.Proposals.{insideIn, taken}
-use Rattle.rules.specs.Job.{track, headerOf, mostRows, mostProposals, jobOf, answersOf, finalOf, skinWith, layoutTests, Result, written, accepted, run}
+use Rattle.rules.specs.Job.{track, headerOf, mostRows, mostProposals, jobOf, answersOf, finalOf, listedOf, layoutTests, Result, written, accepted, run}
 use Rattle.rules.specs.Laws.Job.{job-corners, job-answers}
 use Rattle.rules.specs.Laws.Lists.{gather-same}
 use Rattle.rules.specs.Laws.Written.{written-at}
-use Rattle.rules.specs.Reading.Room.{triangle-length, skin-words}
-use Rattle.rules.specs.Reading.Outward.{rising-unless}
+use Rattle.rules.specs.Reading.Room.{skin-words}
+use Rattle.rules.specs.Reading.Outward.{three-each}
 use Rattle.rules.specs.Reading.Codes.{run-accepted, run-code, layout-passed, accepted-header}
 use Rattle.rules.specs.Reading.Small.{triangles-small}
 use Rattle.track.specs.declared.Outcome.{Outcome}
@@ -34,8 +34,8 @@ pub listed : (job : List ℕ) {text out out′ : List ℕ} {n : ℕ} → text �
 listed job e p room = rw (← e) (put-front p (omega (arith, p .behind)))
 
 module _ (job : List ℕ) {o : Outcome} {answers marks triangles work : List ℕ}
-    (is : result o (lent answers marks triangles work) ≡ run track false job (lent (replicate 1024 0) (replicate 2048 0) (replicate 12288 0) (replicate 8192 0))) where
-  is-run : result o (lent answers marks triangles work) ≡ run track false job zeros
+    (is : result o (lent answers marks triangles work) ≡ run track job (lent (replicate 1024 0) (replicate 2048 0) (replicate 12288 0) (replicate 8192 0))) where
+  is-run : result o (lent answers marks triangles work) ≡ run track job zeros
   unfolding zeros
   is-run = is
 
@@ -44,19 +44,19 @@ module _ (job : List ℕ) {o : Outcome} {answers marks triangles work : List ℕ
   refused-is ne = rw (← is-run, ne-eqb (o .code) 0 ne)
 
   module _ (z : o .code ≡ 0) where
-    ran : run track false job zeros .code ≡ 0
+    ran : run track job zeros .code ≡ 0
     ran = sym (ap (λ (r : Result). r .code) is-run) ∙ z
 
     few-triangles : o .triangles ≤ 2 * mostRows
-    few-triangles = omega (arith, ap (λ (r : Result). r .triangles) is-run, triangles-small track false job zeros refl)
+    few-triangles = omega (arith, ap (λ (r : Result). r .triangles) is-run, triangles-small track job zeros refl)
 
     -- p was read from the header
     module _ {p : ℕ} (ep : p ≡ proposalsRead job) where
       the-proposals : p ≡ headerOf job .proposals
-      the-proposals = ep ∙ rw (layout-passed track false job zeros ran)
+      the-proposals = ep ∙ rw (layout-passed track job zeros ran)
 
       few-proposals : p ≤ mostProposals
-      few-proposals = rw the-proposals (accepted-header track false job zeros ran .0 .1 .1)
+      few-proposals = rw the-proposals (accepted-header track job zeros ran .0 .1 .1)
 
       pub done-fits : length answers ≡ length (replicate {A = ℕ} 1024 0) → length triangles ≡ length (replicate {A = ℕ} 12288 0)
           → (p ≤ mostProposals) × (o .triangles ≤ 2 * mostRows) × (p ≤ length answers) × (3 * o .triangles ≤ length triangles)
@@ -83,17 +83,16 @@ triangles-front xs d n l =
     gather-same n (triangleLine (written xs d)) (triangleLine xs) (λ k m.
     rw (written-at xs d (3 * k) (omega arith), written-at xs d (3 * k + 1) (omega arith), written-at xs d (3 * k + 2) (omega arith)))
 
-pub accepted-listing : (bytes : List ℕ) → run track false bytes zeros .code ≡ 0
+pub accepted-listing : (bytes : List ℕ) → run track bytes zeros .code ≡ 0
     → let job = jobOf track bytes in
-    let skinList = skinWith job (finalOf job) in
+    let skinList = listedOf job in
     listingOf bytes ≡ doneText (headerOf bytes .proposals) (taken (answersOf job)) (length skinList) (answersOf job) (flatten skinList)
 unfolding listingOf listing accepted doneText
 accepted-listing bytes z =
     let job = jobOf track bytes in
-    let skinList = skinWith job (finalOf job) in
+    let skinList = listedOf job in
     rw (
-      run-accepted track false bytes zeros (sym (run-code track false bytes zeros) ∙ z),
-      rising-unless (job .table) false (job .points) (inl refl) (insideIn (finalOf job)),
+      run-accepted track bytes zeros (sym (run-code track bytes zeros) ∙ z),
       answers-front (answersOf job) (zeros .answers) (headerOf bytes .proposals) (omega (arith, job-answers track bytes)),
-      triangles-front (flatten skinList) (zeros .triangles) (length skinList) (omega (arith, skin-words (job .table) (insideIn (finalOf job)) (triangle (job .table)) (λ r c l. triangle-length (job .table) (job-corners track bytes) r c (rw (job-corners track bytes) at l)))),
+      triangles-front (flatten skinList) (zeros .triangles) (length skinList) (omega (arith, skin-words (job .table) (insideIn (finalOf job)) (triangleAs (job .table) (job .outward) (job .points)) (three-each (job .table) (job .outward) (job .points) (job-corners track bytes)))),
     )

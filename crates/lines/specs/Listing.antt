@@ -2,7 +2,7 @@
 use Prim.Native.Nat.{ℕ, zero, suc, _+_, _*_, _/_, _%_}
 use Prim.Native.Char.{code}
 use Prim.Native.String.{String, [] as empty, _∷_ as _then_}
-use mathlib.Core.Bool.{false, cond}
+use mathlib.Core.Bool.{cond}
 use mathlib.Core.List.{List, [], _∷_, _++_}
 use lib.Dec.{ltb, eqb}
 use lib.ListN.{getD, replicate}
@@ -95,6 +95,6 @@ zeros = record {
   work = replicate (workRoom track largest) 0;
 }
 
--- of a job, by its bytes: the ids of each triangle rise, with points or without
+-- of a job, by its bytes: each triangle in the order that word 7 asks for
 unfoldable pub listingOf : List ℕ → List ℕ
-listingOf job = listing (headerOf job .proposals) (run track false job zeros)
+listingOf job = listing (headerOf job .proposals) (run track job zeros)

@@ -31,7 +31,7 @@ module _ (job : List ℕ) (long : 65536 ≤ length job) where
 
   refused : {v : Verdict} → v ≡ firstMatch 1 (layoutTests track job) → v .code ≢ 0 → listingOf job ≡ refusedText (v .code) (v .place)
   unfolding listingOf listing
-  refused {v} e ne = rw (← header-refused job false zeros e ne refl, ne-eqb (v .code) 0 ne)
+  refused {v} e ne = rw (← header-refused job zeros e ne refl, ne-eqb (v .code) 0 ne)
 
   long-refused : listingOf job ≡ cond (withinLimits track (headerOf job)) (refusedText 3 0) (refusedText 2 0)
   unfolding layoutTests firstMatch given found

@@ -49,7 +49,6 @@ pub fn list_job(job: &[u8], out: &mut [u8]) -> usize
     let mut work = [0u32; 8192];
     let r = run(
         job,
-        false,
         &mut answers,
         &mut final_marks,
         &mut triangles,

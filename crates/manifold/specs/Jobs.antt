@@ -1,7 +1,7 @@
 -- Demand 3 for accepted jobs: those that `rules`' run gives code 0, whatever is lent.
 use mathlib.Core.Path.{_≡_, _∙_}
 use mathlib.Core.Logic.{_↔_}
-use mathlib.Core.Bool.{Bool, true, false}
+use mathlib.Core.Bool.{true, false}
 use mathlib.Core.List.{List}
 use Prim.Native.Nat.{ℕ, _+_, _^_, _≤_, _<_}
 use native.Mathlib.Nat.{zero-lt-suc}
@@ -45,7 +45,7 @@ Backwards job = AllTaken (job .table) (finalOf job) (undoing (answersOf job) (jo
 abbrev pub AlikeSteps : Job → Type 0
 AlikeSteps job = (k : ℕ) → OuterAlike (job .table) (standing job k)
 
-module _ (f : Form) (outward : Bool) (bytes : List ℕ) (lent : Lent) (corners : f .corners ≡ 4) (ran : run f outward bytes lent .code ≡ 0) where
+module _ (f : Form) (bytes : List ℕ) (lent : Lent) (corners : f .corners ≡ 4) (ran : run f bytes lent .code ≡ 0) where
   abbrev job : Job
   job = jobOf f bytes
 
@@ -53,13 +53,13 @@ module _ (f : Form) (outward : Bool) (bytes : List ℕ) (lent : Lent) (corners :
   four = job-corners f bytes ∙ corners
 
   closed : Closed (job .table) (job .ids)
-  closed = accepted-closed f outward bytes lent ran
+  closed = accepted-closed f bytes lent ran
 
   start : Marks (job .table) (job .marks)
-  start = record { one-each = accepted-length f outward bytes lent ran; binary = accepted-marks f outward bytes lent ran }
+  start = record { one-each = accepted-length f bytes lent ran; binary = accepted-marks f bytes lent ran }
 
   clean-start : cleanWith job (job .marks) ≡ true
-  clean-start = accepted-clean f outward bytes lent ran
+  clean-start = accepted-clean f bytes lent ran
 
   pub job-every-step : EveryStep (jobOf f bytes)
   job-every-step k = every-step (job .table) four closed (job .marks) start clean-start (job .proposals) k
@@ -70,29 +70,29 @@ module _ (f : Form) (outward : Bool) (bytes : List ℕ) (lent : Lent) (corners :
       five-cases (job .table) four closed (standing job k) m e p off
 
   pub job-alike : AlikeSteps (jobOf f bytes)
-  job-alike k = alike-kept (job .table) (job .marks) (take k (job .proposals)) (accepted-outer f outward bytes lent ran)
+  job-alike k = alike-kept (job .table) (job .marks) (take k (job .proposals)) (accepted-outer f bytes lent ran)
 
   pub job-backwards : Backwards (jobOf f bytes)
   job-backwards = backwards (job .table) four closed (job .marks) start clean-start (job .proposals)
 
-  -- ---- the same as jobs, with whatever choice of order and whatever buffers that are long enough
+  -- ---- the same as jobs, with whatever buffers that are long enough
 
-  module _ (mode-small : f .mode + 1 < 256 ^ 4) (small : wholeLength f (headerOf bytes) < 256 ^ 4) where
+  module _ (mode-small : f .mode + 3 < 256 ^ 4) (small : wholeLength f (headerOf bytes) < 256 ^ 4) where
     limits : WithinLimits f (headerOf bytes)
-    limits = accepted-header f outward bytes lent ran .0
+    limits = accepted-header f bytes lent ran .0
 
     laid : LaidOut f (headerOf bytes) bytes
-    laid = accepted-header f outward bytes lent ran .1
+    laid = accepted-header f bytes lent ran .1
 
     -- The job cut to its first k proposals is run, and gives what it gives for these.
-    pub cut-run : (k : ℕ) → k ≤ headerOf bytes .proposals → (choice : Bool) (buffers : Lent) → (RoomShort f (withProposals (headerOf bytes) k) buffers → ⊥)
-        → run f choice (cutTo f k bytes) buffers ≡ accepted choice (cutJob k job) buffers
-    cut-run k few choice buffers room =
-        run-as f choice (cutTo f k bytes) buffers (withProposals (headerOf bytes) k) (cutJob k job) (cut-header f bytes limits laid mode-small small k few)
-        (cut-job f bytes limits laid mode-small small k few) (cut-laid f bytes limits laid mode-small small k few) room (sections-passed f outward bytes lent ran)
+    pub cut-run : (k : ℕ) → k ≤ headerOf bytes .proposals → (buffers : Lent) → (RoomShort f (withProposals (headerOf bytes) k) buffers → ⊥)
+        → run f (cutTo f k bytes) buffers ≡ accepted (cutJob k job) buffers
+    cut-run k few buffers room =
+        run-as f (cutTo f k bytes) buffers (withProposals (headerOf bytes) k) (cutJob k job) (cut-header f bytes limits laid mode-small small k few)
+        (cut-job f bytes limits laid mode-small small k few) (cut-laid f bytes limits laid mode-small small k few) room (sections-passed f bytes lent ran)
 
     -- The same rows with the final marks, and the taken ones backwards, are run too.
-    module _ (choice : Bool) (buffers : Lent) (room : RoomShort f (withProposals (headerOf bytes) (length (undoing (answersOf job) (job .proposals)))) buffers → ⊥) where
+    module _ (buffers : Lent) (room : RoomShort f (withProposals (headerOf bytes) (length (undoing (answersOf job) (job .proposals)))) buffers → ⊥) where
       back : List Proposal
       back = undoing (answersOf job) (job .proposals)
 
@@ -117,19 +117,19 @@ module _ (f : Form) (outward : Bool) (bytes : List ℕ) (lent : Lent) (corners :
       unfolding tableTests markTests
       sections =
           let t = job .table in
-          let passed = match-parts 5 (zero-lt-suc 4) (tableTests t (job .ids)) _ (sections-passed f outward bytes lent ran) .0 in
+          let passed = match-parts 5 (zero-lt-suc 4) (tableTests t (job .ids)) _ (sections-passed f bytes lent ran) .0 in
           let marks =
-          marks-fit t (job .ids) four (finalOf job) closed (final .0 .binary) (alike-kept t (job .marks) (job .proposals) (accepted-outer f outward bytes lent ran))
+          marks-fit t (job .ids) four (finalOf job) closed (final .0 .binary) (alike-kept t (job .marks) (job .proposals) (accepted-outer f bytes lent ran))
           (clean-plain t four (insideIn (finalOf job)) (inside-reads (finalOf job)) (job .ids) (closed .paired) .0 (final .1))
           in
           match-both 5 (zero-lt-suc 4) (tableTests t (job .ids)) _ passed
-          (match-both 10 (zero-lt-suc 9) (markTests t (job .ids) (finalOf job)) _ marks (points-passed f outward bytes lent ran))
+          (match-both 10 (zero-lt-suc 9) (markTests t (job .ids) (finalOf job)) _ marks (points-passed f bytes lent ran))
 
-      pub undone-run : run f choice (remade f (finalOf job) (undoing (answersOf job) (job .proposals)) bytes) buffers
-          ≡ accepted choice (remadeJob (finalOf job) (undoing (answersOf job) (job .proposals)) job) buffers
+      pub undone-run : run f (remade f (finalOf job) (undoing (answersOf job) (job .proposals)) bytes) buffers
+          ≡ accepted (remadeJob (finalOf job) (undoing (answersOf job) (job .proposals)) job) buffers
       unfolding back
       undone-run =
-          run-as f choice (remade f (finalOf job) back bytes) buffers (withProposals (headerOf bytes) (length back)) (remadeJob (finalOf job) back job)
+          run-as f (remade f (finalOf job) back bytes) buffers (withProposals (headerOf bytes) (length back)) (remadeJob (finalOf job) back job)
           (remade-header f bytes limits laid mode-small small (finalOf job) each back few)
           (remade-job f bytes limits laid mode-small small (finalOf job) each back few fit)
           (remade-laid f bytes limits laid mode-small small (finalOf job) each back few) room sections

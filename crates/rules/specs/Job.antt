@@ -74,9 +74,12 @@ proposalsAt f h = marksAt f h + h .rows
 abbrev pub pointsAt : Form → Header → ℕ
 pointsAt f h = proposalsAt f h + 8 * h .proposals
 
--- word 7 says that V points stand behind the proposals: for a track it is 1
+-- word 7 says that V points stand behind the proposals, and how the skin is to be listed: for a track it is then 1, outward, or 3, rising
 unfoldable pub hasPoints : Form → Header → Bool
-hasPoints f h = eqb (h .mode) (f .mode + 1)
+hasPoints f h = eqb (h .mode) (f .mode + 1) || eqb (h .mode) (f .mode + 3)
+
+unfoldable pub asksOutward : Form → Header → Bool
+asksOutward f h = eqb (h .mode) (f .mode + 1)
 
 -- three i16 each
 unfoldable pub pointBytes : Form → Header → ℕ
@@ -110,13 +113,14 @@ proposalIn bytes k = record { row = word 4 bytes (8 * k); kind = word 4 bytes (8
 unfoldable pub pointsOf : Form → Header → List ℕ → Option (ℕ → Point)
 pointsOf f h bytes = cond (hasPoints f h) (some (pointIn bytes)) none
 
--- V, the rows, the starting marks, the proposals and the points
+-- V, the rows, the starting marks, the proposals, the points, and whether the skin is to be listed outward
 pub record Job : Type 0 where
   pub ids : ℕ
   pub table : Table
   pub marks : List ℕ
   pub proposals : List Proposal
   pub points : Option (ℕ → Point)
+  pub outward : Bool
 
 unfoldable pub jobOf : Form → List ℕ → Job
 jobOf f bytes =
@@ -127,6 +131,7 @@ jobOf f bytes =
       marks = section bytes (marksAt f h) (h .rows);
       proposals = tabulate (h .proposals) (proposalIn (section bytes (proposalsAt f h) (8 * h .proposals)));
       points = pointsOf f h (section bytes (pointsAt f h) (pointBytes f h));
+      outward = asksOutward f h;
     }
 
 -- ---- a job's answers, marks and skins
@@ -141,7 +146,7 @@ standing job k = P.finalMarks (job .table) (job .marks) (take k (job .proposals)
 abbrev pub finalOf : Job → List ℕ
 finalOf job = P.finalMarks (job .table) (job .marks) (job .proposals)
 
--- the skin of such marks, that it is clean, and the skin in the order asked for: rising, or outward where there are points
+-- the skin of such marks, that it is clean, and the skin in either order: rising, or outward where there are points
 abbrev pub skinWith : Job → List ℕ → List (List ℕ)
 skinWith job marks = skin (job .table) (insideIn marks)
 
@@ -150,6 +155,10 @@ listedWith outward job marks = skinAs (job .table) (insideIn marks) (triangleAs 
 
 abbrev pub cleanWith : Job → List ℕ → Bool
 cleanWith job marks = clean (job .table) (insideIn marks) (job .ids)
+
+-- the skin after the last proposal in the order asked for
+abbrev pub listedOf : Job → List (List ℕ)
+listedOf job = listedWith (job .outward) job (finalOf job)
 
 -- ---- the lent buffers
 
@@ -273,11 +282,11 @@ pub record Result : Type 0 where
   pub left : Lent
 
 -- Code 0: P answers, N marks, the skin in the order asked for and the neighbour list at the front of their buffers.
-unfoldable pub accepted : Bool → Job → Lent → Result
-accepted outward job lent =
+unfoldable pub accepted : Job → Lent → Result
+accepted job lent =
     let answers = answersOf job in
     let final = finalOf job in
-    let skinList = listedWith outward job final in
+    let skinList = listedOf job in
     record {
       code = 0;
       place = 0;
@@ -309,8 +318,7 @@ refused f h v lent = record {
 unfoldable pub verdictOn : Form → List ℕ → Lent → Verdict
 verdictOn f bytes lent = firstMatch 1 (jobTests f bytes lent)
 
--- `outward` is the caller's choice: to have the skin listed outward, where there are points
-unfoldable pub run : Form → Bool → List ℕ → Lent → Result
-run f outward bytes lent =
+unfoldable pub run : Form → List ℕ → Lent → Result
+run f bytes lent =
     let v = verdictOn f bytes lent in
-    cond (eqb (v .code) 0) (accepted outward (jobOf f bytes) lent) (refused f (headerOf bytes) v lent)
+    cond (eqb (v .code) 0) (accepted (jobOf f bytes) lent) (refused f (headerOf bytes) v lent)

@@ -1,5 +1,6 @@
 -- Job files made from their parts.
 use Prim.Native.Nat.{ℕ, _-_, _*_}
+use mathlib.Core.Bool.{Bool}
 use mathlib.Core.List.{List, [], _∷_, _++_}
 use lib.ListN.{length, take}
 use Rattle.rules.specs.Words.{words}
@@ -22,11 +23,15 @@ proposalBytes (p ∷ ps) = words (p .row ∷ p .kind ∷ []) ++ proposalBytes ps
 abbrev pub withProposals : Header → ℕ → Header
 withProposals h k = record { ids = h .ids; rows = h .rows; proposals = k; mode = h .mode }
 
--- ---- other proposals
+-- ---- other proposals, another order
 
--- the job with the same rows and points, and other marks and proposals
+-- the job with the same rows, points and order, and other marks and proposals
 abbrev pub remadeJob : List ℕ → List Proposal → Job → Job
-remadeJob marks proposals job = record { ids = job .ids; table = job .table; marks = marks; proposals = proposals; points = job .points }
+remadeJob marks proposals job = record { ids = job .ids; table = job .table; marks = marks; proposals = proposals; points = job .points; outward = job .outward }
+
+-- the same job, to be listed outward or rising
+abbrev pub askingFor : Bool → Job → Job
+askingFor outward job = record { ids = job .ids; table = job .table; marks = job .marks; proposals = job .proposals; points = job .points; outward = outward }
 
 -- the job with its first k proposals
 abbrev pub cutJob : ℕ → Job → Job

@@ -19,7 +19,7 @@ use Rattle.rules.specs.Outward.{product, sideOf, onTriangle, fourthId, f
 use Rattle.rules.specs.First.{given, firstMatch}
 use Rattle.rules.specs.Cases.{otherSide, free, trianglesOnSkin, passes, refusesAt, caseTests}
 use Rattle.rules.specs.Proposals.{insideIn, adds, answerTests, answer, marksAfter, answersTo, finalMarks, taken}
-use Rattle.rules.specs.Job.{Lent, Result, track, headerOf, hasPoints, pointBytes, withinLimits, laidOut, rowsTable, proposalIn, pointsOf, jobOf, shortRooms, roomShort, written, layoutTests, roomTests, tableTests, unlike, markTests, shown, pointTests, jobTests, accepted, refused, verdictOn, run}
+use Rattle.rules.specs.Job.{Lent, Result, track, headerOf, hasPoints, asksOutward, pointBytes, withinLimits, laidOut, rowsTable, proposalIn, pointsOf, jobOf, shortRooms, roomShort, written, layoutTests, roomTests, tableTests, unlike, markTests, shown, pointTests, jobTests, accepted, refused, verdictOn, run}
 
 -- ---- a job's bytes
 
@@ -78,16 +78,15 @@ refusal n p code place = record {
   };
 }
 
--- a job with the caller's choice, its buffers, and what a run of it gives
+-- a job, its buffers, and what a run of it gives
 pub record Worked : Type 0 where
   pub bytes : List ℕ
-  pub outward : Bool
   pub lent : Lent
   pub result : Result
 
 unfoldable pub ran : Worked → Result
-unfolding withinLimits orElse found lowest any all allBut bit sum count gather tabulate only pick word facet edgeTable vertices those unreached none-left connected tableOf rising idsBelow before holds outer side neighbours across neighbourList trianglesShared holdsFace faceJoined facesJoined edgesJoined verticesJoined onSkin different holdsThree farEdge farEnd oneRing skinVertex ringless triangle skinOf skinAs signed coordinate pointIn inRange onGrid belowZero aboveZero isZero sameSign atOrigin from triple volume product sideOf onTriangle fourthId farId offGrid flat sameSide folded rightWay exchanged triangleAs given firstMatch otherSide free trianglesOnSkin passes refusesAt caseTests insideIn adds answerTests answer marksAfter answersTo finalMarks taken headerOf hasPoints pointBytes laidOut rowsTable proposalIn pointsOf jobOf shortRooms roomShort written layoutTests roomTests tableTests unlike markTests shown pointTests jobTests accepted refused verdictOn run flatten
-ran w = run track (w .outward) (w .bytes) (w .lent)
+unfolding withinLimits orElse found lowest any all allBut bit sum count gather tabulate only pick word facet edgeTable vertices those unreached none-left connected tableOf rising idsBelow before holds outer side neighbours across neighbourList trianglesShared holdsFace faceJoined facesJoined edgesJoined verticesJoined onSkin different holdsThree farEdge farEnd oneRing skinVertex ringless triangle skinOf skinAs signed coordinate pointIn inRange onGrid belowZero aboveZero isZero sameSign atOrigin from triple volume product sideOf onTriangle fourthId farId offGrid flat sameSide folded rightWay exchanged triangleAs given firstMatch otherSide free trianglesOnSkin passes refusesAt caseTests insideIn adds answerTests answer marksAfter answersTo finalMarks taken headerOf hasPoints asksOutward pointBytes laidOut rowsTable proposalIn pointsOf jobOf shortRooms roomShort written layoutTests roomTests tableTests unlike markTests shown pointTests jobTests accepted refused verdictOn run flatten
+ran w = run track (w .bytes) (w .lent)
 
 abbrev pub known : Worked → Result
 known w = w .result
@@ -95,7 +94,6 @@ known w = w .result
 abbrev pub accepts : ℕ → List ℕ → List ℕ → List ℕ → Result → Worked
 accepts ids rows marks proposals result = record {
   bytes = job ids rows marks proposals;
-  outward = false;
   lent = lend (length rows / 4) (length proposals / 2);
   result = result;
 }
@@ -103,7 +101,6 @@ accepts ids rows marks proposals result = record {
 abbrev pub refuses : ℕ → List ℕ → List ℕ → List ℕ → ℕ → ℕ → Worked
 refuses ids rows marks proposals code place = record {
   bytes = job ids rows marks proposals;
-  outward = false;
   lent = lend (length rows / 4) (length proposals / 2);
   result = refusal (length rows / 4) (length proposals / 2) code place;
 }
@@ -112,7 +109,6 @@ refuses ids rows marks proposals code place = record {
 abbrev pub keeps : List ℕ → Lent → ℕ → Worked
 keeps bytes lent code = record {
   bytes = bytes;
-  outward = false;
   lent = lent;
   result = record { code = code; place = 0; taken = 0; triangles = 0; left = lent };
 }

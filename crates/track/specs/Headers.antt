@@ -27,16 +27,16 @@ use Rattle.track.specs.Outcomes.{lent, result, refusal}
 use Rattle.track.specs.Stages as stages
 use Rattle.track.specs.Stages.{decided, run-decided, fromTable, withRest, front-decides}
 
-module _ (job : List ℕ) (outward : Bool) (buffers : Lent) where
+module _ (job : List ℕ) (buffers : Lent) where
   abbrev rest : List Test
   rest = sectionTests (jobOf track job)
 
-  early : {v : Verdict} → verdictOn track job buffers ≡ v → v .code ≢ 0 → leb (v .code) 4 ≡ true → result (refusal v) buffers ≡ run track outward job buffers
+  early : {v : Verdict} → verdictOn track job buffers ≡ v → v .code ≢ 0 → leb (v .code) 4 ≡ true → result (refusal v) buffers ≡ run track job buffers
   unfolding decided refused
-  early {v} e ne small = sym (sym (run-decided outward job buffers) ∙ rw (e, ne-eqb (v .code) 0 ne, small))
+  early {v} e ne small = sym (sym (run-decided job buffers) ∙ rw (e, ne-eqb (v .code) 0 ne, small))
 
   -- a header that is not laid out
-  pub header-refused : {v : Verdict} → v ≡ firstMatch 1 (layoutTests track job) → v .code ≢ 0 → {o : Outcome} → o ≡ refusal v → result o buffers ≡ run track outward job buffers
+  pub header-refused : {v : Verdict} → v ≡ firstMatch 1 (layoutTests track job) → v .code ≢ 0 → {o : Outcome} → o ≡ refusal v → result o buffers ≡ run track job buffers
   unfolding verdictOn jobTests layoutTests
   header-refused {v} is ne told =
       let small = match-below 1 (lit< tt) (layoutTests track job) in
@@ -58,7 +58,7 @@ module _ (job : List ℕ) (outward : Bool) (buffers : Lent) where
       unfolding roomShort
       short-is = told-short ∙ ap (λ (x : Header). shortRooms track (meant x) (length (buffers .answers)) (length (buffers .finalMarks)) (length (buffers .triangles)) (length (buffers .work))) (facts .0)
 
-      pub room-refused : short ≡ true → {o : Outcome} → o ≡ refusal (record { code = 4; place = 0 }) → result o buffers ≡ run track outward job buffers
+      pub room-refused : short ≡ true → {o : Outcome} → o ≡ refusal (record { code = 4; place = 0 }) → result o buffers ≡ run track job buffers
       unfolding roomTests given found
       room-refused on told =
           rw told (early {v = record { code = 4; place = 0 }} (from-room ∙ match-here 4 _ _ 0 (ap (λ (b : Bool). found b 0) (sym short-is ∙ on))) (λ e. omega arith) refl)
@@ -96,12 +96,12 @@ module _ (job : List ℕ) (outward : Bool) (buffers : Lent) where
         unfolding jobOf rowsTable tableOf
         list-fits = rw (list-length (jobOf track job .table)) (rw (facts .0) (le-refl (workRoom track (headerOf job))))
 
-        pub room-enough : {r : Result} → r ≡ fromTable outward h (jobOf track job) needed → withRest (drop (workRoom track (meant h)) (buffers .work)) r ≡ run track outward job buffers
+        pub room-enough : {r : Result} → r ≡ fromTable h (jobOf track job) needed → withRest (drop (workRoom track (meant h)) (buffers .work)) r ≡ run track job buffers
         unfolding roomTests given found
         room-enough e =
             ap (withRest (drop (workRoom track (meant h)) (buffers .work))) e
-            ∙ front-decides outward h (sectionTests (jobOf track job)) 5 (lit≤ tt) (jobOf track job) list-fits (buffers .answers) (buffers .finalMarks) (buffers .triangles) (buffers .work) work-fits
-            ∙ ap (λ (x : Header). fromTable outward x (jobOf track job) buffers) (facts .0)
-            ∙ ap (λ (v : Verdict). decided outward (headerOf job) v (jobOf track job) buffers)
+            ∙ front-decides h (sectionTests (jobOf track job)) 5 (lit≤ tt) (jobOf track job) list-fits (buffers .answers) (buffers .finalMarks) (buffers .triangles) (buffers .work) work-fits
+            ∙ ap (λ (x : Header). fromTable x (jobOf track job) buffers) (facts .0)
+            ∙ ap (λ (v : Verdict). decided (headerOf job) v (jobOf track job) buffers)
             (sym (from-room ∙ match-later 4 _ _ (ap (λ (b : Bool). found b 0) (sym short-is ∙ off))))
-            ∙ run-decided outward job buffers
+            ∙ run-decided job buffers

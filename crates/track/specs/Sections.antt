@@ -13,7 +13,7 @@ use Rattle.rules.specs.Below.{tabulate}
 use Rattle.rules.specs.First.{Test, Verdict, firstMatch}
 use Rattle.rules.specs.Table.{neighbourList}
 use Rattle.rules.specs.Job as rules
-use Rattle.rules.specs.Job.{track, rowBytes, rowsAt, marksAt, proposalsAt, pointsAt, pointBytes, section, rowsTable, proposalIn, pointsOf, Job, jobOf, Lent, workRoom, written, tableTests, Result, accepted, refused}
+use Rattle.rules.specs.Job.{track, rowBytes, rowsAt, marksAt, proposalsAt, pointsAt, asksOutward, pointBytes, section, rowsTable, proposalIn, pointsOf, Job, jobOf, Lent, workRoom, written, tableTests, Result, accepted, refused}
 use Rattle.rules.specs.Laws.Truth.{same-or-not}
 use Rattle.rules.specs.Laws.First.{match-append, match-front}
 use Rattle.rules.specs.Laws.Lists.{part-length}
@@ -51,11 +51,11 @@ left-closed (Edge r) work z = absurd (omega arith)
 left-closed (Vertex r) work z = absurd (omega arith)
 
 -- what was written to work before is written over
-same-left : (outward : Bool) (h : rules.Header) (tests : List Test) (code : ℕ) → 5 ≤ code → (job : Job) (answers final triangles work work₀ : List ℕ)
+same-left : (h : rules.Header) (tests : List Test) (code : ℕ) → 5 ≤ code → (job : Job) (answers final triangles work work₀ : List ℕ)
     → workRoom track h ≡ length (neighbourList (job .table)) → work ≡ written (neighbourList (job .table)) work₀
-    → decided outward h (firstMatch code tests) job (lent answers final triangles work) ≡ decided outward h (firstMatch code tests) job (lent answers final triangles work₀)
+    → decided h (firstMatch code tests) job (lent answers final triangles work) ≡ decided h (firstMatch code tests) job (lent answers final triangles work₀)
 unfolding decided accepted refused
-same-left outward h tests code l job answers final triangles work work₀ fits ew =
+same-left h tests code l job answers final triangles work work₀ fits ew =
     ⊎-elim (λ (z : firstMatch code tests .code ≡ 0). rw (z, ew, written-over list list work₀ (le-refl (length list))))
     (λ (ne : firstMatch code tests .code ≡ 0 → ⊥). rw (ne-eqb (firstMatch code tests .code) 0 ne, late code l tests ne, ew, over)) (same-or-not (firstMatch code tests .code) 0)
   where
@@ -108,7 +108,7 @@ module _ {h : Header} {job : List ℕ} {buffers : Lent} (l : Laid h job buffers)
   -- they hold the job
   job-is : jobIn h rows marks proposals points ≡ jobOf track job
   unfolding jobOf proposalsIn
-  job-is = (λ k. record { ids = h .ids; table = table-is k; marks = marks-is k; proposals = proposals-are k; points = pointsOf track (meant h) (points-is k) }) ∙ ap (λ (x : Header). held (meant x)) (l .is)
+  job-is = (λ k. record { ids = h .ids; table = table-is k; marks = marks-is k; proposals = proposals-are k; points = pointsOf track (meant h) (points-is k); outward = asksOutward track (meant h) }) ∙ ap (λ (x : Header). held (meant x)) (l .is)
     where
       held : rules.Header → Job
       held x = record {
@@ -117,6 +117,7 @@ module _ {h : Header} {job : List ℕ} {buffers : Lent} (l : Laid h job buffers)
         marks = section job (marksAt track x) (x .rows);
         proposals = tabulate (x .proposals) (proposalIn (section job (proposalsAt track x) (8 * x .proposals)));
         points = pointsOf track x (section job (pointsAt track x) (pointBytes track x));
+        outward = asksOutward track x;
       }
 
       table-is : tableIn rows ≡ held (meant h) .table
@@ -125,7 +126,7 @@ module _ {h : Header} {job : List ℕ} {buffers : Lent} (l : Laid h job buffers)
       proposals-are : proposalsIn proposals ≡ held (meant h) .proposals
       proposals-are = ap₂ (λ (n : ℕ) (xs : List ℕ). tabulate n (proposalIn xs)) proposals-counted proposals-is
 
-  module _ (outward : Bool) (broken : Broken) (found : verdictOf broken ≡ firstMatch 5 (tableTests (tableIn rows) (h .ids))) {o : Outcome} (told : o ≡ refusal (verdictOf broken))
+  module _ (broken : Broken) (found : verdictOf broken ≡ firstMatch 5 (tableTests (tableIn rows) (h .ids))) {o : Outcome} (told : o ≡ refusal (verdictOf broken))
       {work : List ℕ} (left : work ≡ leftOf broken (written (neighbourList (tableIn rows)) (buffers .work))) where
     list-fits : length (neighbourList (tableIn rows)) ≡ workRoom track (meant h)
     list-fits = list-length (tableIn rows) ∙ ap (λ (n : ℕ). 4 * n) counted
@@ -136,7 +137,7 @@ module _ {h : Header} {job : List ℕ} {buffers : Lent} (l : Laid h job buffers)
     same-code : o .code ≡ verdictOf broken .code
     same-code = ap (λ (x : Outcome). x .code) told
 
-    pub table-refused : o .code ≢ 0 → result o (lent (buffers .answers) (buffers .finalMarks) (buffers .triangles) work) ≡ fromTable outward h (jobOf track job) buffers
+    pub table-refused : o .code ≢ 0 → result o (lent (buffers .answers) (buffers .finalMarks) (buffers .triangles) work) ≡ fromTable h (jobOf track job) buffers
     unfolding decided refused
     table-refused ne =
         rw (← job-is)
@@ -190,13 +191,13 @@ module _ {h : Header} {job : List ℕ} {buffers : Lent} (l : Laid h job buffers)
         triangle-room = rw counted (l .triangle-room);
       }
 
-      pub table-passed : {r : Result} → r ≡ fromMarks outward h (jobIn h rows marks proposals points) (lent (buffers .answers) (buffers .finalMarks) (buffers .triangles) work)
-          → r ≡ fromTable outward h (jobOf track job) buffers
+      pub table-passed : {r : Result} → r ≡ fromMarks h (jobIn h rows marks proposals points) (lent (buffers .answers) (buffers .finalMarks) (buffers .triangles) work)
+          → r ≡ fromTable h (jobOf track job) buffers
       unfolding tableTests
       table-passed {r} e =
           e
-          ∙ same-left outward (meant h) (laterTests (tableIn rows) (h .ids) marks (pointsOf track (meant h) points)) 10 (lit≤ tt) (jobIn h rows marks proposals points)
+          ∙ same-left (meant h) (laterTests (tableIn rows) (h .ids) marks (pointsOf track (meant h) points)) 10 (lit≤ tt) (jobIn h rows marks proposals points)
           (buffers .answers) (buffers .finalMarks) (buffers .triangles) work (buffers .work) (sym list-fits) listed
-          ∙ ap (λ (v : Verdict). decided outward (meant h) v (jobIn h rows marks proposals points) buffers)
+          ∙ ap (λ (v : Verdict). decided (meant h) v (jobIn h rows marks proposals points) buffers)
           (sym (match-append 5 (lit< tt) (tableTests (tableIn rows) (h .ids)) (laterTests (tableIn rows) (h .ids) marks (pointsOf track (meant h) points)) (ap (λ (v : Verdict). v .code) (sym found) ∙ sym same-code ∙ z)))
-          ∙ ap (λ (j : Job). fromTable outward h j buffers) job-is
+          ∙ ap (λ (j : Job). fromTable h j buffers) job-is

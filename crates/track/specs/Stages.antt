@@ -1,7 +1,7 @@
 -- The run in stages: header and room, table, marks, points, proposals. Each says what is still to be decided when it begins.
 use mathlib.Core.Path.{_≡_, refl, sym, ap, ap₂, _∙_}
 use mathlib.Core.Logic.{⊎-elim, _≢_}
-use mathlib.Core.Bool.{Bool, true, false, _&&_, cond}
+use mathlib.Core.Bool.{Bool, true, false, _||_, cond}
 use mathlib.Core.Option.{Option, some, none}
 use mathlib.Core.List.{List, _++_, flatten}
 use Prim.Native.Nat.{ℕ, _+_, _*_, _/_, _≤_}
@@ -18,7 +18,7 @@ use Rattle.rules.specs.Points.{Point, pointIn}
 use Rattle.rules.specs.Outward.{triangleAs}
 use Rattle.rules.specs.Proposals.{Proposal, insideIn, answersTo, finalMarks, taken}
 use Rattle.rules.specs.Job as rules
-use Rattle.rules.specs.Job.{track, headerOf, mostIds, mostRows, mostProposals, hasPoints, pointBytes, wholeLength, pointsOf, Job, jobOf, Lent, workRoom, listRoom, written, markTests, shown, pointTests, sectionTests, Result, accepted, refused, verdictOn, run}
+use Rattle.rules.specs.Job.{track, headerOf, mostIds, mostRows, mostProposals, hasPoints, asksOutward, pointBytes, wholeLength, pointsOf, Job, jobOf, Lent, workRoom, listRoom, written, markTests, shown, pointTests, sectionTests, Result, accepted, refused, verdictOn, run}
 use Rattle.rules.specs.Laws.Truth.{same-or-not}
 use Rattle.rules.specs.Laws.Proposals.{final-length}
 use Rattle.rules.specs.Laws.First.{match-code, match-zero, match-append, match-front, match-parts}
@@ -35,13 +35,12 @@ use Rattle.track.specs.declared.Outcome.{Outcome}
 use Rattle.track.specs.Outcomes.{lent, result, refusal}
 
 -- the verdict decides: accepted, or refused
-unfoldable pub decided : Bool → rules.Header → Verdict → Job → Lent → Result
-decided outward h v job lent = cond (eqb (v .code) 0) (accepted outward job lent) (refused track h v lent)
+unfoldable pub decided : rules.Header → Verdict → Job → Lent → Result
+decided h v job lent = cond (eqb (v .code) 0) (accepted job lent) (refused track h v lent)
 
-pub run-decided : (outward : Bool) (bytes : List ℕ) (lent : Lent)
-    → decided outward (headerOf bytes) (verdictOn track bytes lent) (jobOf track bytes) lent ≡ run track outward bytes lent
+pub run-decided : (bytes : List ℕ) (lent : Lent) → decided (headerOf bytes) (verdictOn track bytes lent) (jobOf track bytes) lent ≡ run track bytes lent
 unfolding run decided
-run-decided outward bytes lent = refl
+run-decided bytes lent = refl
 
 -- the job of a header and of the bytes of its sections
 abbrev pub jobIn : Header → List ℕ → List ℕ → List ℕ → List ℕ → Job
@@ -51,6 +50,7 @@ jobIn h rows marks proposals points = record {
   marks = marks;
   proposals = proposalsIn proposals;
   points = pointsOf track (meant h) points;
+  outward = asksOutward track (meant h);
 }
 
 -- the tests of marks and points: codes 10 to 15
@@ -58,11 +58,11 @@ abbrev pub laterTests : Table → ℕ → List ℕ → Option (ℕ → Point) �
 laterTests t ids marks points = markTests t ids marks ++ pointTests t ids points
 
 -- what is still to be decided of a job when its table is looked at, and when its marks are
-abbrev pub fromTable : Bool → Header → Job → Lent → Result
-fromTable outward h job = decided outward (meant h) (firstMatch 5 (sectionTests job)) job
+abbrev pub fromTable : Header → Job → Lent → Result
+fromTable h job = decided (meant h) (firstMatch 5 (sectionTests job)) job
 
-abbrev pub fromMarks : Bool → Header → Job → Lent → Result
-fromMarks outward h job = decided outward (meant h) (firstMatch 10 (laterTests (job .table) (job .ids) (job .marks) (job .points))) job
+abbrev pub fromMarks : Header → Job → Lent → Result
+fromMarks h job = decided (meant h) (firstMatch 10 (laterTests (job .table) (job .ids) (job .marks) (job .points))) job
 
 -- ---- what each stage may rest on
 
@@ -107,7 +107,7 @@ late code l tests ne = ⊎-elim (λ z. absurd (ne z)) (λ m. lt-leb (firstMatch 
 pub all-zero : (h : Header) (work : List ℕ) → length work ≡ workRoom track (meant h) → written (replicate (workRoom track (meant h)) 0) work ≡ replicate (length work) 0
 all-zero h work e = rw (← e) (written-whole (replicate (length work) 0) work (rw (length-replicate {A = ℕ} (length work) 0) (le-refl (length work))))
 
-module _ (outward : Bool) (h : Header) (job : Job) (buffers : Lent) {o : Outcome} (told : o ≡ refusal (firstMatch 10 (laterTests (job .table) (job .ids) (job .marks) (job .points)))) where
+module _ (h : Header) (job : Job) (buffers : Lent) {o : Outcome} (told : o ≡ refusal (firstMatch 10 (laterTests (job .table) (job .ids) (job .marks) (job .points)))) where
   abbrev tests : List Test
   tests = laterTests (job .table) (job .ids) (job .marks) (job .points)
 
@@ -115,13 +115,13 @@ module _ (outward : Bool) (h : Header) (job : Job) (buffers : Lent) {o : Outcome
   same-code = ap (λ (x : Outcome). x .code) told
 
   pub marks-refused : length (buffers .work) ≡ workRoom track (meant h) → {work : List ℕ} → o .code ≢ 0 → work ≡ replicate (length (buffers .work)) 0
-      → result o (lent (buffers .answers) (buffers .finalMarks) (buffers .triangles) work) ≡ fromMarks outward h job buffers
+      → result o (lent (buffers .answers) (buffers .finalMarks) (buffers .triangles) work) ≡ fromMarks h job buffers
   unfolding decided refused
   marks-refused room ne ew =
       let off : firstMatch 10 tests .code ≢ 0 = λ z. ne (same-code ∙ z) in
       rw (told, ne-eqb (firstMatch 10 tests .code) 0 off, late 10 (lit≤ tt) tests off, all-zero h (buffers .work) room, ew)
 
-  pub marks-accepted : o .code ≡ 0 → {r : Result} → r ≡ accepted outward job buffers → r ≡ fromMarks outward h job buffers
+  pub marks-accepted : o .code ≡ 0 → {r : Result} → r ≡ accepted job buffers → r ≡ fromMarks h job buffers
   unfolding decided
   marks-accepted z e = rw (sym same-code ∙ z) e
 
@@ -163,27 +163,27 @@ on-grid h t marks {points} few long e on =
     let passed = match-parts 10 (lit< tt) (markTests t (h .ids) marks) _ e .1 in
     none-off (match-zero 13 (lit< tt) _ _ (rw on at passed) .0) few (points-room h t points on long)
 
--- the order of a triangle that is asked for: outward is heard only where there are points
-pub asked-order : (h : Header) (t : Table) (outward : Bool) (points : List ℕ)
-    → triangleAs t (outward && hasPoints track (meant h)) (some (pointIn points)) ≡ triangleAs t outward (pointsOf track (meant h) points)
-unfolding triangleAs pointsOf
-asked-order h t outward points = go (hasPoints track (meant h)) outward
+-- the order of a triangle that is asked for: outward only where there are points, and for rising no point is read
+asked-order : (h : Header) (t : Table) (points : List ℕ)
+    → triangleAs t (asksOutward track (meant h)) (some (pointIn points)) ≡ triangleAs t (asksOutward track (meant h)) (pointsOf track (meant h) points)
+unfolding triangleAs pointsOf asksOutward hasPoints
+asked-order h t points = go (eqb (h .mode) 1) (eqb (h .mode) 3)
   where
-    go : (b o : Bool) → triangleAs t (o && b) (some (pointIn points)) ≡ triangleAs t o (cond b (some (pointIn points)) none)
-    go true true = refl
-    go true false = refl
+    go : (one three : Bool) → triangleAs t one (some (pointIn points)) ≡ triangleAs t one (cond (one || three) (some (pointIn points)) none)
+    go true three = refl
     go false true = refl
     go false false = refl
 
--- the skin of the front of the final marks
-abbrev pub frontSkin : Header → List ℕ → List ℕ → Bool → List ℕ → List (List ℕ)
-frontSkin h rows points outward final = skinAs (tableIn rows) (insideIn (take (rowsIn rows) final)) (triangleAs (tableIn rows) outward (pointsOf track (meant h) points))
+-- the skin of the front of the final marks, in the order asked for
+abbrev pub frontSkin : Header → List ℕ → List ℕ → List ℕ → List (List ℕ)
+frontSkin h rows points final =
+    skinAs (tableIn rows) (insideIn (take (rowsIn rows) final)) (triangleAs (tableIn rows) (asksOutward track (meant h)) (pointsOf track (meant h) points))
 
-pub front-listed : (h : Header) (rows points : List ℕ) (outward : Bool) (final triangles₀ : List ℕ) {n count : ℕ} {has : Bool} {triangles : List ℕ} → n ≡ rowsIn rows → has ≡ hasPoints track (meant h)
-    → (count ≡ length (skinAs (tableIn rows) (insideIn (take n final)) (triangleAs (tableIn rows) (outward && has) (some (pointIn points)))))
-    × (triangles ≡ written (flatten (skinAs (tableIn rows) (insideIn (take n final)) (triangleAs (tableIn rows) (outward && has) (some (pointIn points))))) triangles₀)
-    → (count ≡ length (frontSkin h rows points outward final)) × (triangles ≡ written (flatten (frontSkin h rows points outward final)) triangles₀)
-front-listed h rows points outward final triangles₀ en eh e = rw (en, eh, asked-order h (tableIn rows) outward points) at e
+pub front-listed : (h : Header) (rows points final triangles₀ : List ℕ) {n count : ℕ} {asked : Bool} {triangles : List ℕ} → n ≡ rowsIn rows → asked ≡ asksOutward track (meant h)
+    → (count ≡ length (skinAs (tableIn rows) (insideIn (take n final)) (triangleAs (tableIn rows) asked (some (pointIn points)))))
+    × (triangles ≡ written (flatten (skinAs (tableIn rows) (insideIn (take n final)) (triangleAs (tableIn rows) asked (some (pointIn points))))) triangles₀)
+    → (count ≡ length (frontSkin h rows points final)) × (triangles ≡ written (flatten (frontSkin h rows points final)) triangles₀)
+front-listed h rows points final triangles₀ en ea e = rw (en, ea, asked-order h (tableIn rows) points) at e
 
 -- ---- the work that is needed, lent by itself
 
@@ -197,12 +197,12 @@ withRest rest r = record {
   left = lent (r .left .answers) (r .left .finalMarks) (r .left .triangles) (r .left .work ++ rest);
 }
 
-pub front-decides : (outward : Bool) (h : Header) (tests : List Test) (code : ℕ) → 5 ≤ code → (job : Job) → length (neighbourList (job .table)) ≤ workRoom track (meant h)
+pub front-decides : (h : Header) (tests : List Test) (code : ℕ) → 5 ≤ code → (job : Job) → length (neighbourList (job .table)) ≤ workRoom track (meant h)
     → (answers final triangles work : List ℕ) → workRoom track (meant h) ≤ length work
-    → withRest (drop (workRoom track (meant h)) work) (decided outward (meant h) (firstMatch code tests) job (lent answers final triangles (take (workRoom track (meant h)) work)))
-    ≡ decided outward (meant h) (firstMatch code tests) job (lent answers final triangles work)
+    → withRest (drop (workRoom track (meant h)) work) (decided (meant h) (firstMatch code tests) job (lent answers final triangles (take (workRoom track (meant h)) work)))
+    ≡ decided (meant h) (firstMatch code tests) job (lent answers final triangles work)
 unfolding decided accepted refused
-front-decides outward h tests code l job fits answers final triangles work room =
+front-decides h tests code l job fits answers final triangles work room =
     ⊎-elim (λ (z : firstMatch code tests .code ≡ 0). rw (z, written-front (neighbourList (job .table)) work (workRoom track (meant h)) fits room))
     (λ (ne : firstMatch code tests .code ≡ 0 → ⊥).
     rw (ne-eqb (firstMatch code tests .code) 0 ne, late code l tests ne, written-front zeros work (workRoom track (meant h)) (rw full (le-refl (workRoom track (meant h)))) room))
@@ -248,14 +248,14 @@ final-room {rows = rows} {marks = marks} {proposals = proposals} {buffers = buff
     rw (e, written-length (finalMarks (tableIn rows) marks (proposalsIn proposals)) (buffers .finalMarks) (rw (final-length (tableIn rows) marks (proposalsIn proposals), g .each) (g .mark-room))) (g .mark-room)
 
 -- what an accepted job leaves, once its marks are answered and its skin is listed
-pub grown : (outward : Bool) {h : Header} {rows marks proposals points : List ℕ} {buffers : Lent} → Ready h rows marks proposals points buffers
+pub grown : {h : Header} {rows marks proposals points : List ℕ} {buffers : Lent} → Ready h rows marks proposals points buffers
     → {count taken-count : ℕ} {answers final triangles : List ℕ}
     → taken-count ≡ taken (answersTo (tableIn rows) marks (proposalsIn proposals)) → answers ≡ written (answersTo (tableIn rows) marks (proposalsIn proposals)) (buffers .answers)
     → final ≡ written (finalMarks (tableIn rows) marks (proposalsIn proposals)) (buffers .finalMarks)
-    → count ≡ length (frontSkin h rows points outward final) → triangles ≡ written (flatten (frontSkin h rows points outward final)) (buffers .triangles)
-    → result (record { code = 0; place = 0; taken = taken-count; triangles = count }) (lent answers final triangles (buffers .work)) ≡ accepted outward (jobIn h rows marks proposals points) buffers
+    → count ≡ length (frontSkin h rows points final) → triangles ≡ written (flatten (frontSkin h rows points final)) (buffers .triangles)
+    → result (record { code = 0; place = 0; taken = taken-count; triangles = count }) (lent answers final triangles (buffers .work)) ≡ accepted (jobIn h rows marks proposals points) buffers
 unfolding accepted
-grown outward {h = h} {rows = rows} {marks = marks} {proposals = proposals} {points = points} {buffers = buffers} g {final = final} et ea ef ec el =
+grown {h = h} {rows = rows} {marks = marks} {proposals = proposals} {points = points} {buffers = buffers} g {final = final} et ea ef ec el =
     rw (et, ea, ec, el, front, ef) (ap (λ (w : List ℕ). result (record { code = 0; place = 0; taken = taken given; triangles = length sk }) (lent (written given (buffers .answers)) (written ms (buffers .finalMarks)) (written (flatten sk) (buffers .triangles)) w)) (g .listed))
   where
     given : List ℕ
@@ -265,7 +265,7 @@ grown outward {h = h} {rows = rows} {marks = marks} {proposals = proposals} {poi
     ms = finalMarks (tableIn rows) marks (proposalsIn proposals)
 
     sk : List (List ℕ)
-    sk = skinAs (tableIn rows) (insideIn ms) (triangleAs (tableIn rows) outward (pointsOf track (meant h) points))
+    sk = skinAs (tableIn rows) (insideIn ms) (triangleAs (tableIn rows) (asksOutward track (meant h)) (pointsOf track (meant h) points))
 
     front : take (rowsIn rows) final ≡ ms
     front = ap (take (rowsIn rows)) ef ∙ front-written ms (buffers .finalMarks) (sym (g .each) ∙ sym (final-length (tableIn rows) marks (proposalsIn proposals)))

@@ -46,29 +46,28 @@ fn answer_copied(
     answer_all(rows, work, proposals, answers, &mut final_marks[..n])
 }
 
-// The skin of the marks at the front of the final marks, outward where that is asked for and there are points.
+// The skin of the marks at the front of the final marks, in the order that word 7 asks for.
 fn list_front(
     h: Header,
     rows: &[u8],
     points: &[u8],
-    outward: bool,
     final_marks: &[u8],
     triangles: &mut [u32],
     work: &[u32],
 ) -> usize
     requires { ⌜ Ground (now rows) (now work) (h .ids) × (rowsIn (now rows) ≤ length (now «final_marks»)) × (6 * rowsIn (now rows) ≤ length (now triangles)) × OnGrid h (now points) ⌝ }
-    ensures { λ r. ⌜ (r ≡ length (frontSkin h (now (rows .entry)) (now (points .entry)) outward (now («final_marks» .entry))))
-        × (now (triangles .exit) ≡ written (flatten (frontSkin h (now (rows .entry)) (now (points .entry)) outward (now («final_marks» .entry)))) (now (triangles .entry))) ⌝ }
+    ensures { λ r. ⌜ (r ≡ length (frontSkin h (now (rows .entry)) (now (points .entry)) (now («final_marks» .entry))))
+        × (now (triangles .exit) ≡ written (flatten (frontSkin h (now (rows .entry)) (now (points .entry)) (now («final_marks» .entry)))) (now (triangles .entry))) ⌝ }
 {
     let n = row_count(rows);
-    let asked = outward & h.has_points();
+    let outward = h.asks_outward();
     list_skin(
         rows,
         work,
         &final_marks[..n],
         points,
         h.ids,
-        asked,
+        outward,
         triangles,
     )
 }
@@ -79,7 +78,6 @@ pub(crate) fn grow(
     marks: &[u8],
     proposals: &[u8],
     points: &[u8],
-    outward: bool,
     answers: &mut [u8],
     final_marks: &mut [u8],
     triangles: &mut [u32],
@@ -87,11 +85,11 @@ pub(crate) fn grow(
 ) -> Outcome
     requires { ⌜ Ready h (now rows) (now marks) (now proposals) (now points) (lent (now answers) (now «final_marks») (now triangles) (now work)) × OnGrid h (now points) ⌝ }
     ensures { λ r. ⌜ result r (lent (now (answers .exit)) (now («final_marks» .exit)) (now (triangles .exit)) (now (work .entry)))
-        ≡ accepted outward (jobIn h (now (rows .entry)) (now (marks .entry)) (now (proposals .entry)) (now (points .entry)))
+        ≡ accepted (jobIn h (now (rows .entry)) (now (marks .entry)) (now (proposals .entry)) (now (points .entry)))
         (lent (now (answers .entry)) (now («final_marks» .entry)) (now (triangles .entry)) (now (work .entry))) ⌝ }
 {
     let taken = answer_copied(rows, marks, proposals, answers, final_marks, work);
-    let count = list_front(h, rows, points, outward, final_marks, triangles, work);
+    let count = list_front(h, rows, points, final_marks, triangles, work);
     Outcome {
         code: 0,
         place: 0,

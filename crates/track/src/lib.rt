@@ -121,7 +121,6 @@ fn run_closed(
     marks: &[u8],
     proposals: &[u8],
     points: &[u8],
-    outward: bool,
     answers: &mut [u8],
     final_marks: &mut [u8],
     triangles: &mut [u32],
@@ -130,7 +129,7 @@ fn run_closed(
     requires { ⌜ Ready h (now rows) (now marks) (now proposals) (now points) (lent (now answers) (now «final_marks») (now triangles) (now work))
         × (length (now work) ≡ workRoom track (meant h)) ⌝ }
     ensures { λ r. ⌜ result r (lent (now (answers .exit)) (now («final_marks» .exit)) (now (triangles .exit)) (now (work .exit)))
-        ≡ fromMarks outward h (jobIn h (now (rows .entry)) (now (marks .entry)) (now (proposals .entry)) (now (points .entry)))
+        ≡ fromMarks h (jobIn h (now (rows .entry)) (now (marks .entry)) (now (proposals .entry)) (now (points .entry)))
         (lent (now (answers .entry)) (now («final_marks» .entry)) (now (triangles .entry)) (now (work .entry))) ⌝ }
 {
     let found = look_at_marks_and_points(h, rows, work, marks, points);
@@ -144,7 +143,6 @@ fn run_closed(
         marks,
         proposals,
         points,
-        outward,
         answers,
         final_marks,
         triangles,
@@ -156,7 +154,6 @@ fn run_closed(
 fn run_laid(
     h: Header,
     job: &[u8],
-    outward: bool,
     answers: &mut [u8],
     final_marks: &mut [u8],
     triangles: &mut [u32],
@@ -164,7 +161,7 @@ fn run_laid(
 ) -> Outcome
     requires { ⌜ Laid h (now job) (lent (now answers) (now «final_marks») (now triangles) (now work)) ⌝ }
     ensures { λ r. ⌜ result r (lent (now (answers .exit)) (now («final_marks» .exit)) (now (triangles .exit)) (now (work .exit)))
-        ≡ fromTable outward h (jobOf track (now (job .entry)))
+        ≡ fromTable h (jobOf track (now (job .entry)))
         (lent (now (answers .entry)) (now («final_marks» .entry)) (now (triangles .entry)) (now (work .entry))) ⌝ }
 {
     let rows_at = h.rows_at();
@@ -185,7 +182,6 @@ fn run_laid(
         marks,
         proposals,
         points,
-        outward,
         answers,
         final_marks,
         triangles,
@@ -193,18 +189,16 @@ fn run_laid(
     )
 }
 
-// Runs a job. Every slice of bytes has an answer. Where the job has points, the skin is listed outward if that is asked for; else the ids
-// of each triangle rise.
+// Runs a job. Every slice of bytes has an answer.
 pub fn run(
     job: &[u8],
-    outward: bool,
     answers: &mut [u8],
     final_marks: &mut [u8],
     triangles: &mut [u32],
     work: &mut [u32],
 ) -> Outcome
     ensures { λ r. ⌜ result r (lent (now (answers .exit)) (now («final_marks» .exit)) (now (triangles .exit)) (now (work .exit)))
-        ≡ run track outward (now (job .entry)) (lent (now (answers .entry)) (now («final_marks» .entry)) (now (triangles .entry)) (now (work .entry))) ⌝ }
+        ≡ run track (now (job .entry)) (lent (now (answers .entry)) (now («final_marks» .entry)) (now (triangles .entry)) (now (work .entry))) ⌝ }
 {
     match read(job) {
         Reading::Short => refused(1, 0),
@@ -221,15 +215,7 @@ pub fn run(
                 return refused(4, 0);
             }
             let room = h.work_room();
-            run_laid(
-                h,
-                job,
-                outward,
-                answers,
-                final_marks,
-                triangles,
-                &mut work[..room],
-            )
+            run_laid(h, job, answers, final_marks, triangles, &mut work[..room])
         }
     }
 }

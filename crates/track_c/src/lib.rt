@@ -1,9 +1,7 @@
 // The run for C and Rust.
 use track::run;
 ghost use mathlib.Core.Path.{_≡_};
-ghost use mathlib.Core.Bool.{not};
 ghost use Prim.Native.Nat.{_<_};
-ghost use lib.Dec.{eqb};
 ghost use lib.Seq.{sets};
 ghost use Rattle.rules.specs.Job.{track, run};
 ghost use Rattle.track.specs.Outcomes.{lent};
@@ -17,22 +15,21 @@ fn narrow(x: usize) -> u32
     x as u32
 }
 
-// Runs a job. Where it has points, `outward` that is not 0 asks for triangles listed outward. `outcome` gets code, place, taken and triangles.
+// Runs a job. `outcome` gets code, place, taken and triangles.
 #[no_mangle]
 pub extern "C" fn track_run(
     job: &[u8],
-    outward: u32,
     answers: &mut [u8],
     final_marks: &mut [u8],
     triangles: &mut [u32],
     work: &mut [u32],
     outcome: &mut [u32; 4],
 )
-    ensures { λ _. ⌜ (now (outcome .exit) ≡ sets (now (outcome .entry)) 0 (told (run track (not (eqb outward 0)) (now (job .entry)) (lent (now (answers .entry)) (now («final_marks» .entry)) (now (triangles .entry)) (now (work .entry))))))
+    ensures { λ _. ⌜ (now (outcome .exit) ≡ sets (now (outcome .entry)) 0 (told (run track (now (job .entry)) (lent (now (answers .entry)) (now («final_marks» .entry)) (now (triangles .entry)) (now (work .entry))))))
         × (lent (now (answers .exit)) (now («final_marks» .exit)) (now (triangles .exit)) (now (work .exit))
-        ≡ run track (not (eqb outward 0)) (now (job .entry)) (lent (now (answers .entry)) (now («final_marks» .entry)) (now (triangles .entry)) (now (work .entry))) .left) ⌝ }
+        ≡ run track (now (job .entry)) (lent (now (answers .entry)) (now («final_marks» .entry)) (now (triangles .entry)) (now (work .entry))) .left) ⌝ }
 {
-    let r = run(job, outward != 0, answers, final_marks, triangles, work);
+    let r = run(job, answers, final_marks, triangles, work);
     outcome[0] = narrow(r.code);
     outcome[1] = narrow(r.place);
     outcome[2] = narrow(r.taken);

@@ -1,6 +1,6 @@
 //! Runs the proved engine and `plain` on the same job and compares the outcome
-//! and every byte and word of every lent buffer. A job with points is run in
-//! both orders, and its outward list is looked at by itself.
+//! and every byte and word of every lent buffer. A job that says it has points
+//! is run as it asks for each order, and its outward list is looked at by itself.
 
 use common::{Buffers, Outcome};
 use jobs::{outward, rings, Job};
@@ -58,39 +58,30 @@ impl Comparer {
     }
 
     /// Runs both on copies of `buffers` and panics if they disagree. `name` tells
-    /// the job in the message and names the file with its bytes. Some jobs
-    /// without points are run in both orders, too.
+    /// the job in the message and names the file with its bytes.
     pub fn compare(&mut self, name: &str, kind: &str, job: &[u8], buffers: &Buffers) {
-        let rising = self.run_both(name, kind, job, false, buffers);
-        let (listed, _) = rising.triangles();
-        if listed.as_flattened().contains(&0) {
-            self.disagree(name, kind, job, "id 0 is listed");
-        }
-        if says_points(job) || self.jobs.is_multiple_of(8) {
-            let outward = self.run_both(name, kind, job, true, buffers);
-            if let Some(fault) = self.compare_orders(job, &rising, &outward) {
-                self.disagree(name, kind, job, &fault);
+        let ran = match outward::in_each_order(job) {
+            None => self.run_both(name, kind, job, buffers),
+            Some(each) => {
+                let [outward, rising] = each.map(|job| self.run_both(name, kind, &job, buffers));
+                if let Some(fault) = self.compare_orders(job, &rising, &outward) {
+                    self.disagree(name, kind, job, &fault);
+                }
+                rising
             }
-        }
+        };
         self.jobs += 1;
-        self.codes[rising.outcome.code as usize] += 1;
+        self.codes[ran.outcome.code as usize] += 1;
         if let Some(job) = Job::from_bytes(job) {
-            self.count(&job, &rising);
+            self.count(&job, &ran);
         }
     }
 
-    fn run_both(
-        &self,
-        name: &str,
-        kind: &str,
-        job: &[u8],
-        outward: bool,
-        buffers: &Buffers,
-    ) -> Ran {
+    fn run_both(&self, name: &str, kind: &str, job: &[u8], buffers: &Buffers) -> Ran {
         let mut by_track = buffers.clone();
         let mut by_plain = buffers.clone();
-        let track = track::run(job, outward, by_track.lend());
-        let plain = plain::run(job, outward, by_plain.lend());
+        let track = track::run(job, by_track.lend());
+        let plain = plain::run(job, by_plain.lend());
         let differences = [
             (track != plain).then(|| format!("{track:?} by track and {plain:?} by plain")),
             first_difference("answers", &by_track.answers, &by_plain.answers),
@@ -100,14 +91,17 @@ impl Comparer {
         ];
         let differences: Vec<String> = differences.into_iter().flatten().collect();
         if !differences.is_empty() {
-            let order = if outward { "outward" } else { "rising" };
-            let differences = differences.join("; ");
-            self.disagree(name, kind, job, &format!("{order}: {differences}"));
+            self.disagree(name, kind, job, &differences.join("; "));
         }
-        Ran {
+        let ran = Ran {
             outcome: track,
             left: by_track,
+        };
+        let (listed, _) = ran.triangles();
+        if listed.as_flattened().contains(&0) {
+            self.disagree(name, kind, job, "id 0 is listed");
         }
+        ran
     }
 
     fn disagree(&self, name: &str, kind: &str, job: &[u8], what: &str) -> ! {
@@ -134,12 +128,13 @@ impl Comparer {
         if rising.outcome.code != 0 {
             return None;
         }
-        let turned = by_ids != by_sides;
-        let job = Job::from_bytes(job).filter(|job| job.points.is_some());
-        let Some(job) = job else {
-            return turned.then(|| "triangles are turned without points".to_string());
+        let Some(job) = Job::from_bytes(job) else {
+            return Some("it is run and not laid out".to_string());
         };
-        self.turned[sky_of(&job)] += usize::from(turned);
+        self.turned[sky_of(&job)] += usize::from(by_ids != by_sides);
+        if !by_ids.iter().all(|ids| ids.is_sorted_by(|a, b| a < b)) {
+            return Some("ids don't rise where rising is asked for".to_string());
+        }
         outward::fault(&job, &rising.left.final_marks, by_ids, by_sides)
     }
 
@@ -187,11 +182,6 @@ impl Comparer {
             self.jobs, self.codes, self.unlike, self.pinched, self.answers, self.turned
         );
     }
-}
-
-/// Whether word 7 says that there are points.
-fn says_points(job: &[u8]) -> bool {
-    job.get(28..32) == Some(&[1, 0, 0, 0])
 }
 
 /// 1 if the lowest outer row is inside, else 0.

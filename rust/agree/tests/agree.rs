@@ -148,6 +148,31 @@ fn every_length_and_byte() {
     });
 }
 
+/// Job A without points and with them, with each low byte of word 7, and with
+/// each other bit of it: run without points if it is 0, with points if it is 1
+/// or 3, and else code 3.
+#[test]
+fn every_word_7() {
+    with_stack(|| {
+        let random = &mut Random::new(12);
+        let low = 0..256;
+        let high = (8..32).flat_map(|bit| [0, 1, 3].map(|low| 1 << bit | low));
+        let words: Vec<u32> = low.chain(high).collect();
+        for (name, run) in [("a", &[0][..]), ("points", &[1, 3])] {
+            let mut comparer = comparer();
+            let mut job = fs::read(format!("{STORED}/{name}.job")).expect("a stored job");
+            for &word in &words {
+                job[28..32].copy_from_slice(&word.to_le_bytes());
+                let before = comparer.codes;
+                comparer.compare("word-7", name, &job, &random.buffers(Rooms::exact(6, 8)));
+                let code = if run.contains(&word) { 0 } else { 3 };
+                assert_eq!(comparer.codes[code], before[code] + 1, "{name} {word}");
+            }
+            comparer.report("every word 7");
+        }
+    });
+}
+
 /// Jobs with a row that is just flat, or just folded, with each byte of their
 /// points changed.
 #[test]

@@ -15,7 +15,7 @@ struct Ran {
 
 fn ran(job: &Job) -> Ran {
     let mut buffers = Buffers::filled(job.rooms(), 9);
-    let outcome = track::run(&job.bytes(), true, buffers.lend());
+    let outcome = track::run(&job.bytes(), buffers.lend());
     Ran {
         outcome,
         answers: buffers.answers,

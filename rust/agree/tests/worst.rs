@@ -46,7 +46,7 @@ fn best(job: &Job) -> Duration {
     let job = job.bytes();
     let mut once = || {
         let before = Instant::now();
-        track::run(&job, false, buffers.lend());
+        track::run(&job, buffers.lend());
         before.elapsed()
     };
     (0..RUNS).map(|_| once()).min().expect("some runs")

@@ -38,7 +38,7 @@ fn stopping(table: &Table, random: &mut Random) -> Vec<(u32, Job)> {
     // Without the row whose lowest neighbour is the highest.
     let mut open = table.job();
     let mut buffers = Buffers::zeros(open.rooms());
-    plain::run(&open.bytes(), false, buffers.lend());
+    plain::run(&open.bytes(), buffers.lend());
     let lowest = |row: &usize| buffers.work[4 * row..4 * row + 4].iter().min();
     let latest_open = (0..=last).max_by_key(lowest);
     open.rows.remove(latest_open.expect("a table has rows"));

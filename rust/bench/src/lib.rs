@@ -9,7 +9,6 @@ use std::time::{Duration, Instant};
 /// and the best time of each engine.
 pub struct Timed {
     job: Vec<u8>,
-    outward: bool,
     buffers: Buffers,
     pub outcome: Outcome,
     pub track: Duration,
@@ -17,15 +16,12 @@ pub struct Timed {
 }
 
 impl Timed {
-    /// The triangles of a job with points are listed outward.
     pub fn new(job: &Job) -> Timed {
         let mut buffers = Buffers::zeros(job.rooms());
-        let outward = job.points.is_some();
         let job = job.bytes();
         Timed {
-            outcome: track::run(&job, outward, buffers.lend()),
+            outcome: track::run(&job, buffers.lend()),
             job,
-            outward,
             buffers,
             track: Duration::MAX,
             plain: Duration::MAX,
@@ -35,7 +31,7 @@ impl Timed {
     /// The time of one run of the proved engine.
     pub fn track_once(&mut self) -> Duration {
         let before = Instant::now();
-        track::run(&self.job, self.outward, self.buffers.lend());
+        track::run(&self.job, self.buffers.lend());
         before.elapsed()
     }
 
@@ -43,14 +39,14 @@ impl Timed {
     pub fn run(&mut self) {
         self.track = self.track.min(self.track_once());
         let before = Instant::now();
-        plain::run(&self.job, self.outward, self.buffers.lend());
+        plain::run(&self.job, self.buffers.lend());
         self.plain = self.plain.min(before.elapsed());
     }
 
     /// The stages of one run of `plain`.
     pub fn stages(&mut self) -> Stages {
         let mut stages = Stages::default();
-        plain::run_timed(&self.job, self.outward, self.buffers.lend(), &mut stages);
+        plain::run_timed(&self.job, self.buffers.lend(), &mut stages);
         stages
     }
 }

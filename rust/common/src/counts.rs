@@ -1,4 +1,4 @@
-use crate::Rooms;
+use crate::{Order, Rooms};
 use std::ops::RangeInclusive;
 
 pub const FEWEST_IDS: usize = 5;
@@ -28,8 +28,8 @@ pub const COORDINATE_BYTES: usize = 2;
 /// Three coordinates.
 pub const POINT_BYTES: usize = 3 * COORDINATE_BYTES;
 
-/// The counts of a job, and whether it has points. They alone decide its
-/// layout, and need not be within their limits for that.
+/// The counts of a job, and what its word 7 says. They alone decide its layout,
+/// and need not be within their limits for that.
 #[derive(Clone, Copy, Debug, PartialEq, Eq)]
 pub struct Counts {
     /// V
@@ -38,8 +38,8 @@ pub struct Counts {
     pub rows: usize,
     /// P
     pub proposals: usize,
-    /// Whether V points stand behind the proposals.
-    pub with_points: bool,
+    /// Where V points stand behind the proposals: the order of the skin list.
+    pub points: Option<Order>,
 }
 
 impl Counts {
@@ -50,7 +50,7 @@ impl Counts {
             ids: header[0] as usize,
             rows: header[1] as usize,
             proposals: header[2] as usize,
-            with_points: header[7] == 1,
+            points: Order::told_by(header[7]),
         }
     }
 
@@ -76,7 +76,7 @@ impl Counts {
     }
 
     pub const fn length(&self) -> usize {
-        if self.with_points {
+        if self.points.is_some() {
             self.points_at() + POINT_BYTES * self.ids
         } else {
             self.points_at()
@@ -85,17 +85,16 @@ impl Counts {
 
     /// The header words; of a number too large for a word, the low one.
     pub fn header(&self) -> [u32; HEADER_WORDS] {
-        let words = [
-            self.ids,
-            self.rows,
-            self.proposals,
-            self.rows_at(),
-            self.marks_at(),
-            self.proposals_at(),
-            self.length(),
-            usize::from(self.with_points),
-        ];
-        words.map(|word| word as u32)
+        [
+            self.ids as u32,
+            self.rows as u32,
+            self.proposals as u32,
+            self.rows_at() as u32,
+            self.marks_at() as u32,
+            self.proposals_at() as u32,
+            self.length() as u32,
+            self.points.map_or(0, Order::word_7),
+        ]
     }
 
     /// The room that a job of these counts needs.
@@ -110,16 +109,19 @@ mod tests {
 
     #[test]
     fn largest_job() {
-        for (with_points, length) in [(false, 43_040), (true, 49_184)] {
+        for (points, length, word_7) in [
+            (None, 43_040, 0),
+            (Some(Order::Outward), 49_184, 1),
+            (Some(Order::Rising), 49_184, 3),
+        ] {
             let counts = Counts {
                 ids: 1024,
                 rows: 2048,
                 proposals: 1024,
-                with_points,
+                points,
             };
             assert!(counts.within_limits());
-            let last = u32::from(with_points);
-            let header = [1024, 2048, 1024, 32, 32_800, 34_848, length, last];
+            let header = [1024, 2048, 1024, 32, 32_800, 34_848, length, word_7];
             assert_eq!(counts.header(), header);
             assert_eq!(Counts::told_by(&header), counts);
             assert_eq!(counts.points_at(), 43_040);

@@ -4,6 +4,7 @@
 mod corners;
 mod counts;
 mod lent;
+mod order;
 mod outcome;
 
 pub use corners::{EDGES, TRIANGLES};
@@ -13,4 +14,5 @@ pub use counts::{
     ROW_BYTES, WORD_BYTES,
 };
 pub use lent::{Buffers, Lent, Rooms};
+pub use order::Order;
 pub use outcome::Outcome;

@@ -4,7 +4,9 @@ mod points;
 
 use crate::growth::{even_marks, marks_after, propose, random_marks};
 use crate::{placed, tables, Job, Point, Random, Table};
-use common::{Rooms, FEWEST_IDS, HEADER_BYTES, HEADER_WORDS, MOST_IDS, MOST_PROPOSALS, MOST_ROWS};
+use common::{
+    Order, Rooms, FEWEST_IDS, HEADER_BYTES, HEADER_WORDS, MOST_IDS, MOST_PROPOSALS, MOST_ROWS,
+};
 
 /// A job and the lengths of the buffers lent for it.
 #[derive(Clone, Debug)]
@@ -52,8 +54,9 @@ pub fn case_on(
     let adds = random.pick(&[10, 30, 50, 70, 90]);
     propose(&mut job, proposals, adds, random);
     if let Some(points) = points {
-        kind += ", with points";
         job.points = Some(points);
+        job.order = random.pick(&Order::EACH);
+        kind += &format!(", with points, {:?}", job.order);
         points::one_for_each_id(&mut job, random);
         if random.chance(40) {
             kind += &format!(", {}", points::damage(&mut job, random));
@@ -306,7 +309,7 @@ fn damage_bytes(bytes: &mut Vec<u8>, random: &mut Random) -> &'static str {
             "extended"
         }
         7 => {
-            let word_7 = random.pick(&[0, 1, 2, 3, 16, 17, 1 << 8, 1 << 16, 1 << 24]);
+            let word_7 = random.pick(&[0, 1, 2, 3, 4, 5, 16, 17, 19, 1 << 8, 1 << 16, 1 << 24]);
             bytes[28..32].copy_from_slice(&u32::to_le_bytes(word_7));
             "word 7 changed"
         }

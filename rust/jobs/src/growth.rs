@@ -116,7 +116,7 @@ struct Standing {
 impl Standing {
     fn after(job: &Job) -> Option<Standing> {
         let mut buffers = Buffers::zeros(job.rooms());
-        let outcome = plain::run(&job.bytes(), false, buffers.lend());
+        let outcome = plain::run(&job.bytes(), buffers.lend());
         (outcome.code == 0).then_some(Standing {
             marks: buffers.final_marks,
             neighbours: buffers.work,

@@ -1,4 +1,4 @@
-use common::{Counts, Rooms, COORDINATE_BYTES, HEADER_BYTES, HEADER_WORDS, WORD_BYTES};
+use common::{Counts, Order, Rooms, COORDINATE_BYTES, HEADER_BYTES, HEADER_WORDS, WORD_BYTES};
 
 /// Three coordinates, in units of 1/16 metre.
 pub type Point = [i16; 3];
@@ -29,6 +29,7 @@ impl Table {
             marks: vec![0; self.rows.len()],
             proposals: Vec::new(),
             points: None,
+            order: Order::default(),
         }
     }
 }
@@ -44,6 +45,8 @@ pub struct Job {
     pub proposals: Vec<[u32; 2]>,
     /// One for each id, in a job with points.
     pub points: Option<Vec<Point>>,
+    /// How its skin is to be listed, in a job with points.
+    pub order: Order,
 }
 
 impl Job {
@@ -55,7 +58,7 @@ impl Job {
             ids: self.ids as usize,
             rows: self.rows.len(),
             proposals: self.proposals.len(),
-            with_points: self.points.is_some(),
+            points: self.points.as_ref().map(|_| self.order),
         }
     }
 
@@ -102,8 +105,9 @@ impl Job {
             marks: bytes[marks..proposals].to_vec(),
             proposals: groups(&words(&bytes[proposals..points])),
             points: counts
-                .with_points
-                .then(|| groups(&coordinates(&bytes[points..]))),
+                .points
+                .map(|_| groups(&coordinates(&bytes[points..]))),
+            order: counts.points.unwrap_or_default(),
         })
     }
 }

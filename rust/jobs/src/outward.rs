@@ -1,9 +1,22 @@
-//! What must hold of a skin that is listed outward.
+//! A job in either order, and what must hold of a skin that is listed outward.
 
 use crate::geometry::{exact, volume};
 use crate::{Job, Point};
-use common::TRIANGLES;
+use common::{Order, TRIANGLES};
 use std::collections::HashMap;
+
+/// The bytes of a job that asks for each order, outward and then rising, if its
+/// word 7 asks for one of them.
+pub fn in_each_order(job: &[u8]) -> Option<[Vec<u8>; 2]> {
+    let at = 28..32;
+    let word_7 = job.get(at.clone())?.try_into().ok()?;
+    Order::told_by(u32::from_le_bytes(word_7))?;
+    Some(Order::EACH.map(|order| {
+        let mut asking = job.to_vec();
+        asking[at.clone()].copy_from_slice(&order.word_7().to_le_bytes());
+        asking
+    }))
+}
 
 /// A directed edge of a listed triangle.
 type Step = [u32; 2];
@@ -98,6 +111,24 @@ mod tests {
             points: Some([&[[0; 3]], &corners[..]].concat()),
             ..tables::simplex().job()
         }
+    }
+
+    #[test]
+    fn each_order_is_asked_for() {
+        let job = about_the_middle([0, 0, 0, 0, 1]);
+        let each = Order::EACH.map(|order| {
+            let job = job.clone();
+            Job { order, ..job }.bytes()
+        });
+        for bytes in &each {
+            assert_eq!(in_each_order(bytes), Some(each.clone()));
+        }
+        let without = Job {
+            points: None,
+            ..job
+        };
+        assert_eq!(in_each_order(&without.bytes()), None);
+        assert_eq!(in_each_order(&each[0][..31]), None);
     }
 
     #[test]

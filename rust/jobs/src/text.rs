@@ -9,14 +9,16 @@
 //! | `add r`, `remove r` | the next proposal |
 //! | `propose r kind` | the next proposal, of any kind |
 //! | `point id x y z` | the job has points, and this one is that of the id |
+//! | `rising` | the ids of each listed triangle are to rise; without this line a job with points asks for outward |
 //! | `word i value` | header word i is this, whatever the layout makes it |
 //! | `length n` | cut to n bytes, or extended with zero bytes |
 //!
 //! `#` begins a comment. Where two lines set the same thing, the last decides. In
-//! a job with points those without a line are 0 0 0.
+//! a job with points those without a line are 0 0 0; in one without, ids rise with
+//! or without the line for it.
 
 use crate::{Job, Point};
-use common::{HEADER_WORDS, WORD_BYTES};
+use common::{Order, HEADER_WORDS, WORD_BYTES};
 use std::fmt::Write;
 
 /// The bytes of the job that a text describes, or what is wrong with the text.
@@ -27,6 +29,7 @@ pub fn to_bytes(text: &str) -> Result<Vec<u8>, String> {
         marks: Vec::new(),
         proposals: Vec::new(),
         points: None,
+        order: Order::default(),
     };
     let mut marks = Vec::new();
     let mut points = Vec::new();
@@ -59,6 +62,7 @@ pub fn to_bytes(text: &str) -> Result<Vec<u8>, String> {
             ("add", &[row]) => job.proposals.push([row, Job::ADD]),
             ("remove", &[row]) => job.proposals.push([row, Job::REMOVE]),
             ("propose", &[row, kind]) => job.proposals.push([row, kind]),
+            ("rising", &[]) => job.order = Order::Rising,
             ("word", &[word, value]) if (word as usize) < HEADER_WORDS => {
                 words.push((WORD_BYTES * word as usize, value));
             }
@@ -129,6 +133,9 @@ pub fn from_job(job: &Job) -> String {
     for (id, [x, y, z]) in job.points.iter().flatten().enumerate() {
         let _ = writeln!(text, "point {id} {x} {y} {z}");
     }
+    if job.counts().points == Some(Order::Rising) {
+        text.push_str("rising\n");
+    }
     text
 }
 
@@ -167,6 +174,7 @@ mod tests {
                 [0, 1023, -1023],
                 [0; 3],
             ]),
+            order: Order::Outward,
         };
         assert_eq!(bytes, job.bytes());
         assert_eq!(Job::from_bytes(&bytes).unwrap(), job);
@@ -177,6 +185,24 @@ mod tests {
         };
         assert_eq!(bytes.len(), without_points.bytes().len() + 6 * 6);
         assert!(!from_job(&without_points).contains("point"));
+
+        let rising = Job {
+            order: Order::Rising,
+            ..job
+        };
+        let bytes = to_bytes(&format!("rising\n{text}")).unwrap();
+        assert_eq!(bytes, rising.bytes());
+        assert_eq!(Job::from_bytes(&bytes).unwrap(), rising);
+        assert_eq!(to_bytes(&from_job(&rising)).unwrap(), bytes);
+    }
+
+    #[test]
+    fn without_points_word_7_is_0() {
+        let text = "ids 5\nrow 0 1 2 3\nadd 0\n";
+        let bytes = to_bytes(text).unwrap();
+        assert_eq!(bytes[28..32], [0; 4]);
+        assert_eq!(to_bytes(&format!("{text}rising\n")).unwrap(), bytes);
+        assert_eq!(from_bytes(&bytes).unwrap(), text);
     }
 
     #[test]
@@ -208,6 +234,7 @@ mod tests {
             "ids 5\npoint -1 2 3 4",
             "ids 5\npoint 1 2 3 32768",
             "ids 5\npoint 5 2 3 4",
+            "ids 5\nrising 1",
         ] {
             let message = to_bytes(text).unwrap_err();
             assert!(message.starts_with("line 2: "), "{message}");

@@ -5,7 +5,7 @@
 //! Chains are of faces that the proved engine has one key for (`key_of`).
 
 use crate::{growth, tables, Job, Random, Table};
-use common::{MOST_IDS, MOST_PROPOSALS, MOST_ROWS};
+use common::{Order, MOST_IDS, MOST_PROPOSALS, MOST_ROWS};
 use std::collections::BTreeSet;
 
 const KEYS: u32 = 8192;
@@ -119,6 +119,7 @@ impl Parts {
             marks,
             proposals: Vec::new(),
             points: None,
+            order: Order::default(),
         }
     }
 }

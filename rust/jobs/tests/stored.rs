@@ -2,16 +2,16 @@
 //! listings are what `plain` gives.
 
 use common::{MOST_PROPOSALS, MOST_ROWS};
-use jobs::text;
+use jobs::{outward, text};
 use std::fs;
 use std::path::{Path, PathBuf};
 
 const FOLDER: &str = concat!(env!("CARGO_MANIFEST_DIR"), "/../../jobs");
 
-const NAMES: [&str; 28] = [
+const NAMES: [&str; 30] = [
     "a", "adds", "b", "beside", "c", "cut", "d", "e", "f", "far", "flat", "folded", "g", "gap",
-    "h", "i", "inward", "j", "largest", "n2049", "n4", "pinched", "points", "removes", "road",
-    "short31", "sky", "v6",
+    "h", "i", "inward", "j", "largest", "n2049", "n4", "outward", "pinched", "points", "removes",
+    "road", "short31", "sky", "upward", "v6",
 ];
 
 fn path(name: &str, ending: &str) -> PathBuf {
@@ -89,16 +89,36 @@ fn listings_begin_as_the_documents_say() {
         ("j", "refused 9 0"),
         ("n2049", "refused 2 0"),
         ("n4", "refused 2 0"),
+        ("outward", "done 7 3 4"),
         ("points", "done 7 3 4"),
         ("road", "done 18 12 18"),
         ("short31", "refused 1 0"),
         ("sky", "done 0 0 4"),
+        ("upward", "done 18 12 18"),
         ("v6", "done 7 3 4"),
     ] {
         assert_eq!(read_text(name, "out").lines().next(), Some(first), "{name}");
     }
     assert_eq!(read("a", "out"), read("v6", "out"));
     assert_eq!(read("a", "out"), read("points", "out"));
+}
+
+/// Of the stored jobs with points two ask for outward, each the twin of one that
+/// asks for rising ids.
+#[test]
+fn each_order_is_stored() {
+    for name in NAMES {
+        let Some(each) = outward::in_each_order(&read(name, "job")) else {
+            continue;
+        };
+        let asks = ["outward", "upward"].contains(&name);
+        assert_eq!(each[usize::from(!asks)], read(name, "job"), "{name}");
+    }
+    for (name, twin) in [("outward", "points"), ("upward", "road")] {
+        let each = outward::in_each_order(&read(name, "job")).expect(name);
+        assert!(each == [read(name, "job"), read(twin, "job")], "{name}");
+        assert_ne!(read(name, "out"), read(twin, "out"));
+    }
 }
 
 #[test]

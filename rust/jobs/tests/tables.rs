@@ -9,7 +9,7 @@ fn assert_closed(name: &str, table: &Table) {
 }
 
 fn assert_accepted(name: &str, job: &Job) {
-    let outcome = plain::run(&job.bytes(), false, Buffers::zeros(job.rooms()).lend());
+    let outcome = plain::run(&job.bytes(), Buffers::zeros(job.rooms()).lend());
     assert_eq!(
         (outcome.code, outcome.place),
         (0, 0),

@@ -12,7 +12,7 @@ mod table;
 pub use listing::listing;
 pub use stages::Stages;
 
-use common::{Counts, Lent, Outcome};
+use common::{Counts, Lent, Order, Outcome};
 use points::Sides;
 use stages::{Stage, Stopwatch, Unwatched, Watch};
 use table::Table;
@@ -39,20 +39,19 @@ impl From<Refusal> for Outcome {
     }
 }
 
-/// Runs a job. The four buffers are left as document 01 says for the code. The
-/// triangles of a job with points are listed outward if that is asked for.
-pub fn run(job: &[u8], outward: bool, lent: Lent) -> Outcome {
-    run_watched(job, outward, lent, &mut Unwatched)
+/// Runs a job. The four buffers are left as document 01 says for the code.
+pub fn run(job: &[u8], lent: Lent) -> Outcome {
+    run_watched(job, lent, &mut Unwatched)
 }
 
 /// As `run`, and sets `stages` to the time that each stage took. A stage that
 /// a refused job didn't finish counts as zero.
-pub fn run_timed(job: &[u8], outward: bool, lent: Lent, stages: &mut Stages) -> Outcome {
+pub fn run_timed(job: &[u8], lent: Lent, stages: &mut Stages) -> Outcome {
     *stages = Stages::default();
-    run_watched(job, outward, lent, &mut Stopwatch::start(stages))
+    run_watched(job, lent, &mut Stopwatch::start(stages))
 }
 
-fn run_watched<W: Watch>(job: &[u8], outward: bool, lent: Lent, watch: &mut W) -> Outcome {
+fn run_watched<W: Watch>(job: &[u8], lent: Lent, watch: &mut W) -> Outcome {
     let counts = match header::read_counts(job) {
         Ok(counts) => counts,
         Err(code) => return Refusal::new(code, 0).into(),
@@ -60,7 +59,7 @@ fn run_watched<W: Watch>(job: &[u8], outward: bool, lent: Lent, watch: &mut W) -
     let Some(mut lent) = lent.front(counts.rooms()) else {
         return Refusal::new(4, 0).into();
     };
-    run_laid_out(&counts, job, outward, &mut lent, watch).unwrap_or_else(|refusal| {
+    run_laid_out(&counts, job, &mut lent, watch).unwrap_or_else(|refusal| {
         lent.work.fill(0);
         refusal.into()
     })
@@ -71,7 +70,6 @@ fn run_watched<W: Watch>(job: &[u8], outward: bool, lent: Lent, watch: &mut W) -
 fn run_laid_out<W: Watch>(
     counts: &Counts,
     job: &[u8],
-    outward: bool,
     lent: &mut Lent,
     watch: &mut W,
 ) -> Result<Outcome, Refusal> {
@@ -95,9 +93,9 @@ fn run_laid_out<W: Watch>(
     skin::check_marks(&table, start)?;
     skin::check_clean(&table, start)?;
     watch.lap(Stage::Clean);
-    let sides = match counts.with_points {
-        true => Some(Sides::checked(&table, &job[counts.points_at()..])?),
-        false => None,
+    let sides = match counts.points {
+        Some(_) => Some(Sides::checked(&table, &job[counts.points_at()..])?),
+        None => None,
     };
     watch.lap(Stage::Points);
 
@@ -106,6 +104,7 @@ fn run_laid_out<W: Watch>(
     let proposals = &job[counts.proposals_at()..counts.points_at()];
     let taken = growth::run_proposals(&table, marks, proposals, lent.answers);
     watch.lap(Stage::Proposals);
+    let outward = counts.points == Some(Order::Outward);
     let listed = match sides.filter(|_| outward) {
         Some(sides) => {
             let exchanged = |row, left_out| sides.looks_inward(&table, row, left_out);

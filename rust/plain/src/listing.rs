@@ -8,7 +8,7 @@ use std::fmt::Write;
 /// What the listing program prints for a job.
 pub fn listing(job: &[u8]) -> String {
     let mut buffers = Buffers::zeros(Rooms::exact(MOST_ROWS, MOST_PROPOSALS));
-    let outcome = run(job, false, buffers.lend());
+    let outcome = run(job, buffers.lend());
     if outcome.code != 0 {
         return format!("refused {} {}\n", outcome.code, outcome.place);
     }

@@ -1,7 +1,7 @@
 //! The jobs of document 01 with their whole results, and jobs with points. Every
 //! buffer is lent one longer than needed and filled with 9s.
 
-use common::{Buffers, Outcome, Rooms};
+use common::{Buffers, Order, Outcome, Rooms};
 use jobs::{Job, Point};
 
 fn job_a() -> Job {
@@ -17,6 +17,7 @@ fn job_a() -> Job {
         marks: vec![0; 5],
         proposals: vec![[4, 1], [4, 1], [0, 1], [4, 2], [4, 3], [5, 1], [4, 1]],
         points: None,
+        order: Order::default(),
     }
 }
 
@@ -35,6 +36,7 @@ fn job_b() -> Job {
         marks: vec![0; 12],
         proposals: vec![[8, 1], [11, 1], [10, 1], [11, 1], [9, 1], [8, 2], [11, 2]],
         points: None,
+        order: Order::default(),
     }
 }
 
@@ -50,6 +52,7 @@ fn twice_a(ids: u32, second: [u32; 5]) -> Job {
         marks: vec![0; 10],
         proposals: vec![],
         points: None,
+        order: Order::default(),
     }
 }
 
@@ -100,6 +103,7 @@ fn split_twice() -> Job {
         marks: vec![0; 11],
         proposals: vec![],
         points: None,
+        order: Order::default(),
     };
     placed(
         job,
@@ -133,41 +137,35 @@ fn nines(job: &Job) -> Buffers {
 
 /// Runs a job that is refused by its header or for want of room.
 fn refused_early(bytes: &[u8], buffers: &Buffers, code: u32) {
-    for outward in [false, true] {
-        let mut left = buffers.clone();
-        let outcome = plain::run(bytes, outward, left.lend());
-        assert_eq!(outcome, Outcome::refused(code, 0));
-        assert_eq!(left, *buffers);
+    let mut left = buffers.clone();
+    let outcome = plain::run(bytes, left.lend());
+    assert_eq!(outcome, Outcome::refused(code, 0));
+    assert_eq!(left, *buffers);
+}
+
+/// The job with points that asks for this order.
+fn asking(order: Order, job: &Job) -> Job {
+    Job {
+        order,
+        ..job.clone()
     }
 }
 
-/// Runs a job that is refused by its table, its marks or its points.
+/// Runs a job that is refused by its table, its marks or its points, whichever
+/// order it asks for.
 fn refused_late(job: &Job, code: u32, place: u32) {
-    for outward in [false, true] {
+    for order in Order::EACH {
         let mut left = nines(job);
         let mut expected = left.clone();
         expected.work[..job.rooms().work].fill(0);
-        let outcome = plain::run(&job.bytes(), outward, left.lend());
+        let outcome = plain::run(&asking(order, job).bytes(), left.lend());
         assert_eq!(outcome, Outcome::refused(code, place));
         assert_eq!(left, expected);
     }
 }
 
-/// Runs a job that is not refused, and lists the same whatever is asked for.
+/// Runs a job that is not refused.
 fn done(job: &Job, answers: &[u8], marks: &[u8], skin: &[[u32; 3]], neighbours: &[u32]) {
-    for outward in [false, true] {
-        done_listing(outward, job, answers, marks, skin, neighbours);
-    }
-}
-
-fn done_listing(
-    outward: bool,
-    job: &Job,
-    answers: &[u8],
-    marks: &[u8],
-    skin: &[[u32; 3]],
-    neighbours: &[u32],
-) {
     let mut left = nines(job);
     let mut expected = left.clone();
     expected.answers[..answers.len()].copy_from_slice(answers);
@@ -175,7 +173,7 @@ fn done_listing(
     expected.triangles[..3 * skin.len()].copy_from_slice(skin.as_flattened());
     expected.work[..neighbours.len()].copy_from_slice(neighbours);
     let taken = answers.iter().filter(|&&answer| answer == 0).count();
-    let outcome = plain::run(&job.bytes(), outward, left.lend());
+    let outcome = plain::run(&job.bytes(), left.lend());
     assert_eq!(outcome, Outcome::done(taken as u32, skin.len() as u32));
     assert_eq!(left, expected);
 }
@@ -309,7 +307,7 @@ fn room_short_by_one() {
         triangles: vec![9; 30],
         work: vec![9; 20],
     };
-    assert_eq!(plain::run(&bytes, false, exact.clone().lend()).code, 0);
+    assert_eq!(plain::run(&bytes, exact.clone().lend()).code, 0);
     let mut short = exact.clone();
     short.answers.pop();
     refused_early(&bytes, &short, 4);
@@ -381,10 +379,9 @@ fn a_with_points() {
     assert_eq!(job.bytes().len(), 173 + 6 * 5);
     let rising = [[2, 3, 4], [1, 3, 4], [1, 2, 4], [1, 2, 3]];
     let outward = [[2, 4, 3], [1, 3, 4], [1, 4, 2], [1, 2, 3]];
-    for (asked, skin) in [(false, rising), (true, outward)] {
-        done_listing(
-            asked,
-            &job,
+    for (order, skin) in [(Order::Rising, rising), (Order::Outward, outward)] {
+        done(
+            &asking(order, &job),
             &[0, 4, 3, 0, 2, 1, 0],
             &[0, 0, 0, 0, 1],
             &skin,
@@ -400,7 +397,7 @@ fn mirrored_a_with_points() {
     let mut job = inside(placed(job_a(), &[b, a, c, d]), &[4]);
     job.proposals.clear();
     let outward = [[2, 3, 4], [1, 4, 3], [1, 2, 4], [1, 3, 2]];
-    done_listing(true, &job, &[], &[0, 0, 0, 0, 1], &outward, &NEIGHBOURS_A);
+    done(&job, &[], &[0, 0, 0, 0, 1], &outward, &NEIGHBOURS_A);
 }
 
 /// The inside rows are outer, and the corner of row 4 lies in front.
@@ -410,8 +407,9 @@ fn sky_inside_with_points() {
     job.proposals.clear();
     let rising = [[1, 2, 3], [1, 2, 4], [1, 3, 4], [2, 3, 4]];
     let outward = [[1, 3, 2], [1, 2, 4], [1, 4, 3], [2, 3, 4]];
-    for (asked, skin) in [(false, rising), (true, outward)] {
-        done_listing(asked, &job, &[], &[1, 1, 1, 1, 0], &skin, &NEIGHBOURS_A);
+    for (order, skin) in [(Order::Rising, rising), (Order::Outward, outward)] {
+        let job = asking(order, &job);
+        done(&job, &[], &[1, 1, 1, 1, 0], &skin, &NEIGHBOURS_A);
     }
 }
 
@@ -426,7 +424,7 @@ fn points_on_the_border_of_the_grid() {
     let mut job = inside(placed(job_a(), &corners), &[4]);
     job.proposals.clear();
     let outward = [[2, 4, 3], [1, 3, 4], [1, 4, 2], [1, 2, 3]];
-    done_listing(true, &job, &[], &[0, 0, 0, 0, 1], &outward, &NEIGHBOURS_A);
+    done(&job, &[], &[0, 0, 0, 0, 1], &outward, &NEIGHBOURS_A);
 }
 
 #[test]
@@ -451,17 +449,15 @@ fn points_out_of_range() {
     let six = |last: Point| placed(unused.clone(), &[&TETRAHEDRON[..], &[last]].concat());
     refused_late(&six([0, 1024, 0]), 13, 5);
     let mut left = nines(&unused);
-    assert_eq!(
-        plain::run(&six([0, 1023, 0]).bytes(), true, left.lend()).code,
-        0
-    );
+    let six = six([0, 1023, 0]);
+    assert_eq!(plain::run(&six.bytes(), left.lend()).code, 0);
 }
 
 #[test]
 fn flat_row() {
     let job = split_twice();
     let mut left = nines(&job);
-    assert_eq!(plain::run(&job.bytes(), true, left.lend()).code, 0);
+    assert_eq!(plain::run(&job.bytes(), left.lend()).code, 0);
     // Into the plane of 3 4 5, which is y + z = 0.
     refused_late(&moved(job.clone(), 6, [-8, 2, -2]), 14, 10);
     // Onto the edge 4 5: rows 9 and 10 are flat.
@@ -495,26 +491,28 @@ fn earlier_codes_decide_with_points() {
     refused_late(&job, 15, 8);
     job = moved(job, 4, OCTAHEDRON[3]);
     let mut left = nines(&job);
-    assert_eq!(plain::run(&job.bytes(), true, left.lend()).code, 0);
+    assert_eq!(plain::run(&job.bytes(), left.lend()).code, 0);
 }
 
-/// Word 7 and the length must fit one another.
+/// Word 7 is 0, 1 or 3, and it and the length must fit one another.
 #[test]
 fn layout_with_points() {
     let with = placed(job_a(), &TETRAHEDRON);
     let buffers = nines(&with);
-    let mut bytes = with.bytes();
-    refused_early(&bytes[..bytes.len() - 1], &buffers, 3);
-    bytes.push(0);
-    refused_early(&bytes, &buffers, 3);
-    bytes.pop();
-    for word in [0, 2, 3, 16, 17, 1 << 8 | 1, 1 << 24] {
+    for order in Order::EACH {
+        let mut bytes = asking(order, &with).bytes();
+        refused_early(&bytes[..bytes.len() - 1], &buffers, 3);
+        bytes.push(0);
+        refused_early(&bytes, &buffers, 3);
+    }
+    let bytes = with.bytes();
+    for word in [0, 2, 4, 5, 16, 17, 19, 1 << 8 | 1, 1 << 16 | 3, 1 << 24] {
         let mut other = bytes.clone();
         other[28..32].copy_from_slice(&u32::to_le_bytes(word));
         refused_early(&other, &buffers, 3);
     }
     let mut without = job_a().bytes();
-    for word in [1, 2] {
+    for word in [1, 2, 3, 4] {
         without[28] = word;
         refused_early(&without, &buffers, 3);
     }
@@ -525,8 +523,8 @@ fn timed_run_gives_the_same() {
     let job = job_b();
     let (mut timed, mut untimed) = (nines(&job), nines(&job));
     let mut stages = plain::Stages::default();
-    let outcome = plain::run_timed(&job.bytes(), false, timed.lend(), &mut stages);
-    assert_eq!(outcome, plain::run(&job.bytes(), false, untimed.lend()));
+    let outcome = plain::run_timed(&job.bytes(), timed.lend(), &mut stages);
+    assert_eq!(outcome, plain::run(&job.bytes(), untimed.lend()));
     assert_eq!(timed, untimed);
     assert!(!stages.neighbours.is_zero());
 }

@@ -12,8 +12,8 @@ use points::Points;
 
 pub type Row = [u32; 4];
 
-/// Runs a job; `outward` asks for outward triangles.
-pub fn run(job: &[u8], outward: bool, lent: Lent) -> Outcome {
+/// Runs a job.
+pub fn run(job: &[u8], lent: Lent) -> Outcome {
     if let Some(code) = refused_by_header(job) {
         return Outcome::refused(code, 0);
     }
@@ -37,7 +37,7 @@ pub fn run(job: &[u8], outward: bool, lent: Lent) -> Outcome {
         [number(job, at), number(job, at + 4)]
     });
 
-    let points = (word_7 == 1).then(|| Points::read(&job[points_at..]));
+    let points = (word_7 == 1 || word_7 == 3).then(|| Points::read(&job[points_at..]));
 
     let refused = refused_by_table(v, &rows, marks).or_else(|| points.as_ref()?.refused(&rows));
     if let Some((code, place)) = refused {
@@ -63,7 +63,7 @@ pub fn run(job: &[u8], outward: bool, lent: Lent) -> Outcome {
     let skin = skin(&rows, final_marks);
     for (i, &ids) in skin.iter().enumerate() {
         let listed = match &points {
-            Some(points) if outward => points.outward(&rows, final_marks, ids),
+            Some(points) if word_7 == 1 => points.outward(&rows, final_marks, ids),
             _ => ids,
         };
         triangles[3 * i..3 * i + 3].copy_from_slice(&listed);
@@ -96,7 +96,7 @@ fn refused_by_header(job: &[u8]) -> Option<u32> {
     let [marks, proposals, end] = places(n, p);
     let length = match word(7) {
         0 => end,
-        1 => end + POINT_BYTES * v,
+        1 | 3 => end + POINT_BYTES * v,
         _ => return Some(3),
     };
     let laid_out = word(3) == HEADER_BYTES

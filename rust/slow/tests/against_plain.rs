@@ -6,11 +6,11 @@ use common::{Buffers, Outcome, Rooms};
 use jobs::{cases, growth, outward, placed, tables, Job, Random};
 
 /// Runs both on the same buffers, requires the same results, and returns them.
-fn agree(kind: &str, job: &[u8], outward: bool, buffers: Buffers) -> (Outcome, Buffers) {
+fn agree(kind: &str, job: &[u8], buffers: Buffers) -> (Outcome, Buffers) {
     let mut by_plain = buffers.clone();
     let mut by_slow = buffers;
-    let plain = plain::run(job, outward, by_plain.lend());
-    let slow = slow::run(job, outward, by_slow.lend());
+    let plain = plain::run(job, by_plain.lend());
+    let slow = slow::run(job, by_slow.lend());
     assert_eq!(plain, slow, "{kind}");
     assert!(by_plain == by_slow, "{kind}: buffers");
     (slow, by_slow)
@@ -35,18 +35,18 @@ fn random_jobs() {
         let case = cases::case(number, most);
         let buffers = Random::new(!number).buffers(case.rooms);
         let kind = format!("case {number} of {most}: {}", case.kind);
-        let (outcome, rising) = agree(&kind, &case.job, false, buffers.clone());
-        let (also, outward) = agree(&kind, &case.job, true, buffers);
-        assert_eq!(outcome, also, "{kind}");
+        let (outcome, left) = agree(&kind, &case.job, buffers.clone());
         codes[outcome.code as usize] += 1;
         if outcome.code == 0 {
             let job = Job::from_bytes(&case.job).expect("a layout");
-            for &answer in &rising.answers[..job.proposals.len()] {
+            for &answer in &left.answers[..job.proposals.len()] {
                 answers[answer as usize] += 1;
             }
-            orders.add(&kind, &job, &rising, &outward, outcome.triangles as usize);
-        } else {
-            assert_eq!(rising, outward, "{kind}");
+        }
+        if let Some(each) = outward::in_each_order(&case.job) {
+            let each = each.map(|job| agree(&kind, &job, buffers.clone()));
+            assert!(each.contains(&(outcome, left)), "{kind}");
+            orders.add(&kind, &case.job, each);
         }
     }
     println!("codes {codes:?}\nanswers {answers:?}\n{orders:?}");
@@ -58,8 +58,8 @@ fn random_jobs() {
     }
 }
 
-/// How many accepted jobs are listed otherwise when outward is asked for, with
-/// the sky outside and with it inside, and how many are not.
+/// How many accepted jobs with points are listed otherwise when outward is asked
+/// for, with the sky outside and with it inside, and how many are not.
 #[derive(Debug, Default)]
 struct Orders {
     differ: [usize; 2],
@@ -67,9 +67,18 @@ struct Orders {
 }
 
 impl Orders {
-    fn add(&mut self, kind: &str, job: &Job, rising: &Buffers, outward: &Buffers, count: usize) {
-        let [by_ids, by_sides] = [rising, outward].map(|left| {
-            let (triangles, behind) = left.triangles.split_at(3 * count);
+    /// What a job that says it has points came to in each order.
+    fn add(&mut self, kind: &str, job: &[u8], [outward, rising]: [(Outcome, Buffers); 2]) {
+        assert_eq!(outward.0, rising.0, "{kind}");
+        let (outcome, outward, rising) = (outward.0, outward.1, rising.1);
+        if outcome.code != 0 {
+            assert_eq!(outward, rising, "{kind}");
+            return;
+        }
+        let job = &Job::from_bytes(job).expect("a layout");
+        let [by_ids, by_sides] = [&rising, &outward].map(|left| {
+            let listed = 3 * outcome.triangles as usize;
+            let (triangles, behind) = left.triangles.split_at(listed);
             (triangles.as_chunks::<3>().0, behind)
         });
         assert_eq!(by_ids.1, by_sides.1, "{kind}");
@@ -81,7 +90,6 @@ impl Orders {
         if by_ids.0 == by_sides.0 {
             self.same += 1;
         } else {
-            assert!(job.points.is_some(), "{kind}");
             self.differ[usize::from(job.sky() == Some(1))] += 1;
         }
     }
@@ -94,12 +102,7 @@ fn every_start() {
         let mut job = table.job();
         for marks in growth::every_start(&table) {
             job.marks = marks;
-            agree(
-                "every start",
-                &job.bytes(),
-                false,
-                Buffers::zeros(job.rooms()),
-            );
+            agree("every start", &job.bytes(), Buffers::zeros(job.rooms()));
         }
     }
 }
@@ -113,7 +116,7 @@ fn every_start_with_points() {
         for marks in growth::every_start(&placed.table) {
             job.marks = marks;
             let lent = Buffers::zeros(job.rooms());
-            agree("every start, outward", &job.bytes(), true, lent);
+            agree("every start, outward", &job.bytes(), lent);
         }
     }
 }
@@ -132,12 +135,8 @@ fn every_marking() {
         let outer: Vec<usize> = (0..job.rows.len()).filter(outer).collect();
         for marks in growth::every_marking(&table) {
             job.marks = marks;
-            let (outcome, _) = agree(
-                "every marking",
-                &job.bytes(),
-                false,
-                Buffers::zeros(job.rooms()),
-            );
+            let lent = Buffers::zeros(job.rooms());
+            let (outcome, _) = agree("every marking", &job.bytes(), lent);
             let differs = |r: &&usize| job.marks[**r] != job.marks[outer[0]];
             match outer.iter().find(differs) {
                 Some(&place) => {
@@ -154,7 +153,7 @@ fn every_marking() {
 /// Each byte of small stored jobs changed, and each length.
 #[test]
 fn every_byte_and_length() {
-    for name in ["a", "sky", "b", "points", "flat", "folded"] {
+    for name in ["a", "sky", "b", "points", "outward", "flat", "folded"] {
         let folder = concat!(env!("CARGO_MANIFEST_DIR"), "/../../jobs");
         let bytes = std::fs::read(format!("{folder}/{name}.job")).expect("a stored job");
         let buffers = Random::new(6).buffers(Rooms::exact(13, 9));
@@ -162,14 +161,14 @@ fn every_byte_and_length() {
             for change in [1, 2, 3, 4, 8, 128, 255] {
                 let mut changed = bytes.clone();
                 changed[at] ^= change;
-                agree("a byte changed", &changed, true, buffers.clone());
+                agree("a byte changed", &changed, buffers.clone());
             }
-            agree("cut", &bytes[..at], true, buffers.clone());
+            agree("cut", &bytes[..at], buffers.clone());
         }
         let mut longer = bytes.clone();
         for _ in 0..20 {
             longer.push(0);
-            agree("extended", &longer, true, buffers.clone());
+            agree("extended", &longer, buffers.clone());
         }
     }
 }
@@ -189,12 +188,8 @@ fn five_cases_keep_the_skin_clean() {
         job.marks = growth::even_marks(&table, sky, random.pick(&[0, 1]));
         let adds = random.pick(&[20, 50, 80]);
         growth::propose(&mut job, 40, adds, random);
-        let (outcome, buffers) = agree(
-            "five cases",
-            &job.bytes(),
-            false,
-            Buffers::zeros(job.rooms()),
-        );
+        let lent = Buffers::zeros(job.rooms());
+        let (outcome, buffers) = agree("five cases", &job.bytes(), lent);
         assert_eq!(outcome.code, 0);
         let mut marks = job.marks.clone();
         for (&[row, kind], &answer) in job.proposals.iter().zip(&buffers.answers) {

@@ -2,7 +2,7 @@
 //! and its answer, and that two more are taken on B; each triangle in both
 //! orders, with the product that tells its side.
 
-use common::Buffers;
+use common::{Buffers, Order};
 use jobs::Job;
 use std::fs;
 
@@ -34,7 +34,7 @@ fn told(section: &str) -> Vec<Told> {
 
 fn answers(job: &Job) -> Vec<u8> {
     let mut buffers = Buffers::zeros(job.rooms());
-    assert_eq!(slow::run(&job.bytes(), false, buffers.lend()).code, 0);
+    assert_eq!(slow::run(&job.bytes(), buffers.lend()).code, 0);
     buffers.answers
 }
 
@@ -97,9 +97,13 @@ fn triangle(text: &str) -> Option<[u32; 3]> {
     ids.try_into().ok()
 }
 
-fn skin(job: &Job, outward: bool) -> Vec<[u32; 3]> {
+fn skin(job: &Job, order: Order) -> Vec<[u32; 3]> {
     let mut buffers = Buffers::zeros(job.rooms());
-    let outcome = slow::run(&job.bytes(), outward, buffers.lend());
+    let job = Job {
+        order,
+        ..job.clone()
+    };
+    let outcome = slow::run(&job.bytes(), buffers.lend());
     assert_eq!(outcome.code, 0);
     let listed = buffers.triangles.chunks_exact(3);
     listed
@@ -135,14 +139,14 @@ fn points_are_as_the_page_says() {
         rising.push(ids);
         outward.push(triangle(&row[5]).expect("a triangle"));
     }
-    assert_eq!(rising, skin(&job, false));
-    assert_eq!(outward, skin(&job, true));
+    assert_eq!(rising, skin(&job, Order::Rising));
+    assert_eq!(outward, skin(&job, Order::Outward));
 }
 
 #[test]
 fn the_road_is_as_the_page_says() {
     let job = stored("road");
-    let (rising, outward) = (skin(&job, false), skin(&job, true));
+    let [outward, rising] = Order::EACH.map(|order| skin(&job, order));
     let mut told = 0;
     for row in cells("### Outward") {
         let Some(ids) = triangle(&row[1]) else {

@@ -11,11 +11,11 @@ thread_local! {
     static HARNESS: RefCell<Option<Harness>> = const { RefCell::new(None) };
 }
 
-pub(crate) fn run(job: &[u8], outward: bool, lent: Lent) -> [u32; 4] {
+pub(crate) fn run(job: &[u8], lent: Lent) -> [u32; 4] {
     HARNESS.with_borrow_mut(|harness| {
         harness
             .get_or_insert_with(Harness::start)
-            .run(job, outward, lent)
+            .run(job, lent)
             .expect("the emulated engine ended early")
     })
 }
@@ -36,7 +36,7 @@ impl Harness {
         }))
     }
 
-    fn run(&mut self, job: &[u8], outward: bool, lent: Lent) -> io::Result<[u32; 4]> {
+    fn run(&mut self, job: &[u8], lent: Lent) -> io::Result<[u32; 4]> {
         let Lent {
             answers,
             final_marks,
@@ -45,7 +45,6 @@ impl Harness {
         } = lent;
         let mut request = Vec::new();
         for number in [
-            usize::from(outward),
             job.len(),
             answers.len(),
             final_marks.len(),

@@ -1,18 +1,17 @@
 /* An x86-64 program without a C library that runs jobs for `emulated.rs`.
  *
- * On standard input, again and again until it ends: what is asked for of the
- * order, then the lengths of the job and of the four buffers, in elements, 8
- * bytes each; then their contents. On standard output for each: the four words
- * of the outcome, then the buffers. */
+ * On standard input, again and again until it ends: the lengths of the job and
+ * of the four buffers, in elements, 8 bytes each; then their contents. On
+ * standard output for each: the four words of the outcome, then the buffers. */
 
 typedef unsigned char u8;
 typedef unsigned int u32;
 typedef unsigned long u64;
 
-extern void track_run(const u8 *job, u64 job_len, u32 outward, u8 *answers,
-                      u64 answers_len, u8 *final_marks, u64 final_marks_len,
-                      u32 *triangles, u64 triangles_len, u32 *work,
-                      u64 work_len, u32 *outcome);
+extern void track_run(const u8 *job, u64 job_len, u8 *answers, u64 answers_len,
+                      u8 *final_marks, u64 final_marks_len, u32 *triangles,
+                      u64 triangles_len, u32 *work, u64 work_len,
+                      u32 *outcome);
 
 /* Far above what any test lends. */
 #define ROOM (1 << 20)
@@ -68,9 +67,8 @@ void *memset(void *to, int value, u64 bytes)
 __attribute__((force_align_arg_pointer)) void _start(void)
 {
     for (;;) {
-        u64 outward, lengths[5];
+        u64 lengths[5];
         u32 outcome[4];
-        get(&outward, sizeof outward);
         get(lengths, sizeof lengths);
         for (int i = 0; i < 5; i++)
             if (lengths[i] > ROOM)
@@ -80,9 +78,9 @@ __attribute__((force_align_arg_pointer)) void _start(void)
         get(final_marks, lengths[2]);
         get(triangles, 4 * lengths[3]);
         get(work, 4 * lengths[4]);
-        track_run(job, lengths[0], (u32)outward, answers, lengths[1],
-                  final_marks, lengths[2], triangles, lengths[3], work,
-                  lengths[4], outcome);
+        track_run(job, lengths[0], answers, lengths[1], final_marks,
+                  lengths[2], triangles, lengths[3], work, lengths[4],
+                  outcome);
         put(outcome, sizeof outcome);
         put(answers, lengths[1]);
         put(final_marks, lengths[2]);

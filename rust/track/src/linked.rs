@@ -8,7 +8,6 @@ extern "C" {
     fn track_run(
         job: *const u8,
         job_len: usize,
-        outward: u32,
         answers: *mut u8,
         answers_len: usize,
         final_marks: *mut u8,
@@ -21,7 +20,7 @@ extern "C" {
     );
 }
 
-pub(crate) fn run(job: &[u8], outward: bool, lent: Lent) -> [u32; 4] {
+pub(crate) fn run(job: &[u8], lent: Lent) -> [u32; 4] {
     let Lent {
         answers,
         final_marks,
@@ -36,7 +35,6 @@ pub(crate) fn run(job: &[u8], outward: bool, lent: Lent) -> [u32; 4] {
         track_run(
             job.as_ptr(),
             job.len(),
-            u32::from(outward),
             answers.as_mut_ptr(),
             answers.len(),
             final_marks.as_mut_ptr(),

@@ -33,7 +33,7 @@ slice-aggregate-put-done-2 c = search needs
 put-done-requires : tie.Need-put-done-requires
 put-done-requires c κs =
     let at-run = c .before .before .before .before .before .before .before .before .before .before in
-    let (a, b, d, e) = done-fits _ (at-run .run .ensures) (c .before .before .before .before .if1 .left) (c .before .before .before .proposals-of .ensures) (at-run .run .kept .1 .1 .0) (at-run .run .kept .1 .1 .1 .1 .0) in (a, b, d, e, at-run .before .before .before .before .before .before .before .pre)
+    let (a, b, d, e) = done-fits _ (at-run .run .ensures) (c .before .before .before .before .if1 .left) (c .before .before .before .proposals-of .ensures) (at-run .run .kept .1 .0) (at-run .run .kept .1 .1 .1 .0) in (a, b, d, e, at-run .before .before .before .before .before .before .before .pre)
 
 returns-2 : tie.Need-returns-2
 returns-2 c =

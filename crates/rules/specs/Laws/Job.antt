@@ -6,7 +6,7 @@ use Prim.Native.Nat.{ℕ, _*_, _≤_, zero-le}
 use native.Mathlib.Nat.{le-refl}
 use lib.ListN.{length}
 use Rattle.rules.specs.Table.{tableOf}
-use Rattle.rules.specs.Job.{Form, Header, headerOf, hasPoints, pointBytes, rowsTable, jobOf, answersOf}
+use Rattle.rules.specs.Job.{Form, Header, headerOf, hasPoints, asksOutward, pointBytes, rowsTable, jobOf, answersOf}
 use Rattle.rules.specs.Laws.Lists.{tabulate-length}
 use Rattle.rules.specs.Laws.Proposals.{answers-length}
 
@@ -18,6 +18,11 @@ points-few f h = go (hasPoints f h)
     go : (b : Bool) → cond b (6 * h .ids) 0 ≤ 6 * h .ids
     go true = le-refl (6 * h .ids)
     go false = zero-le
+
+-- outward is asked for only where there are points
+pub outward-pointed : (f : Form) (h : Header) → asksOutward f h ≡ true → hasPoints f h ≡ true
+unfolding asksOutward hasPoints
+outward-pointed f h e = rw e
 
 module _ (f : Form) (bytes : List ℕ) where
   pub job-ids : jobOf f bytes .ids ≡ headerOf bytes .ids

@@ -12,12 +12,12 @@ use Rattle.rules.specs.Below.{found, tabulate}
 use Rattle.rules.specs.Words.{words}
 use Rattle.rules.specs.First.{given, firstMatch}
 use Rattle.rules.specs.Proposals.{Proposal}
-use Rattle.rules.specs.Job.{Form, track, Header, headerWord, headerOf, rowBytes, rowsAt, marksAt, proposalsAt, pointsAt, hasPoints, pointBytes, wholeLength, section, rowsTable, proposalIn, pointsOf, jobOf, layoutTests}
+use Rattle.rules.specs.Job.{Form, track, Header, headerWord, headerOf, rowBytes, rowsAt, marksAt, proposalsAt, pointsAt, hasPoints, asksOutward, pointBytes, wholeLength, section, rowsTable, proposalIn, pointsOf, jobOf, layoutTests}
 use Rattle.rules.specs.Made.{headerWords, headerBytes, proposalBytes, withProposals, remadeJob, cutJob, pointsSection, cutTo, remade}
 use Rattle.rules.specs.Laws.Lists.{Among, part-length, tabulate-is}
 use Rattle.rules.specs.Laws.Words.{word-after, words-at}
 use Rattle.rules.specs.Laws.Job.{points-few, job-proposals}
-use Rattle.rules.specs.Reading.Codes.{WithinLimits, limits-read, LaidOut, laid-out-reads}
+use Rattle.rules.specs.Reading.Codes.{WithinLimits, limits-read, WithPoints, LaidOut, laid-out-reads}
 use Rattle.rules.specs.Reading.File.{proposal-part, proposal-stands}
 
 -- ---- a file of a header, rows, marks and proposals
@@ -25,7 +25,7 @@ use Rattle.rules.specs.Reading.File.{proposal-part, proposal-stands}
 -- a header within its limits, each of whose words fits four bytes
 record Fits (f : Form) (h : Header) : Type 0 where
   limits : WithinLimits f h
-  mode : (h .mode ≡ f .mode) ⊎ (h .mode ≡ f .mode + 1)
+  mode : (h .mode ≡ f .mode) ⊎ WithPoints f h
   mode-small : h .mode < 256 ^ 4
   small : wholeLength f h < 256 ^ 4
 
@@ -66,6 +66,7 @@ module _ (f : Form) (h : Header) (fits : Fits f h) where
       marks = marks;
       proposals = tabulate (h .proposals) (proposalIn proposals);
       points = pointsOf f h points;
+      outward = asksOutward f h;
     }
     unfolding jobOf
     made-job =
@@ -118,7 +119,7 @@ first-parts f bytes h =
     let whole : pointsAt f h - rowsAt ≡ rowBytes f * h .rows + (h .rows + 8 * h .proposals) = omega arith in
     rw (whole, take-add, take-add, drop-drop, drop-drop)
 
-module _ (f : Form) (bytes : List ℕ) (limits : WithinLimits f (headerOf bytes)) (laid : LaidOut f (headerOf bytes) bytes) (mode-small : f .mode + 1 < 256 ^ 4)
+module _ (f : Form) (bytes : List ℕ) (limits : WithinLimits f (headerOf bytes)) (laid : LaidOut f (headerOf bytes) bytes) (mode-small : f .mode + 3 < 256 ^ 4)
     (small : wholeLength f (headerOf bytes) < 256 ^ 4) where
   -- as many points, however many proposals
   same-points : (k : ℕ) → pointBytes f (withProposals (headerOf bytes) k) ≡ pointBytes f (headerOf bytes)
@@ -129,11 +130,15 @@ module _ (f : Form) (bytes : List ℕ) (limits : WithinLimits f (headerOf bytes)
   unfolding pointsOf hasPoints
   points-are k points = refl
 
+  order-is : (k : ℕ) → asksOutward f (withProposals (headerOf bytes) k) ≡ asksOutward f (headerOf bytes)
+  unfolding asksOutward
+  order-is k = refl
+
   fewer : (k : ℕ) → k ≤ headerOf bytes .proposals → Fits f (withProposals (headerOf bytes) k)
   fewer k few = record {
     limits = (limits .0, omega (arith, limits .1));
     mode = laid .0 .1;
-    mode-small = ⊎-elim (λ e. omega (arith, e)) (λ e. omega (arith, e)) (laid .0 .1);
+    mode-small = ⊎-elim (λ e. omega (arith, e)) (λ points. ⊎-elim (λ e. omega (arith, e)) (λ e. omega (arith, e)) points) (laid .0 .1);
     small = omega (arith, same-points k);
   }
 
@@ -171,6 +176,7 @@ module _ (f : Form) (bytes : List ℕ) (limits : WithinLimits f (headerOf bytes)
           made-job f h (fewer k few) (section bytes rowsAt (rowBytes f * h .rows)) (section bytes (marksAt f h) (h .rows)) (section bytes (proposalsAt f h) (8 * k)) (pointsSection f bytes)
               rows-long (within-file (marksAt f h) (h .rows) (omega arith)) (within-file (proposalsAt f h) (8 * k) (omega arith)) (points-long k),
           points-are k (pointsSection f bytes),
+          order-is k,
           tabulate-is k (proposalIn (section bytes (proposalsAt f h) (8 * k))) blank (take k proposals) (length-take-le k proposals (rw (job-proposals f bytes) few)) (λ i l.
               proposal-part bytes (proposalsAt f h) (8 * k) i (omega arith) ∙ sym (proposal-stands f bytes blank i (omega arith)) ∙ sym (getD-take k proposals i blank l)),
         )
@@ -196,6 +202,7 @@ module _ (f : Form) (bytes : List ℕ) (limits : WithinLimits f (headerOf bytes)
           made-job f h (fewer (length proposals) few) (section bytes rowsAt (rowBytes f * h .rows)) marks (proposalBytes proposals) (pointsSection f bytes) rows-long each (proposals-long proposals)
               (points-long (length proposals)),
           points-are (length proposals) (pointsSection f bytes),
+          order-is (length proposals),
           tabulate-is (length proposals) (proposalIn (proposalBytes proposals)) blank proposals refl (proposal-at proposals fit),
         )
 

@@ -48,21 +48,29 @@ module _ (f : Form) where
       range : (low n high : ℕ) → (within low n high ≡ true) ↔ Within low n high
       range low n high = and-reads (leb-reads low n) (leb-reads n high)
 
-  -- words 3 to 7 are, for a track, 32, 32 + 16N, 32 + 17N, 32 + 17N + 8P and 0, or with points 32 + 17N + 8P + 6V and 1, and word 6 is the
-  -- length lent
+  -- word 7 of a job with points: for a track 1 or 3
+  abbrev pub WithPoints : Header → Type 0
+  WithPoints h = (h .mode ≡ f .mode + 1) ⊎ (h .mode ≡ f .mode + 3)
+
+  pub with-points-reads : (h : Header) → (hasPoints f h ≡ true) ↔ WithPoints h
+  unfolding hasPoints
+  with-points-reads h = or-reads (eqb-reads (h .mode) (f .mode + 1)) (eqb-reads (h .mode) (f .mode + 3))
+
+  -- words 3 to 7 are, for a track, 32, 32 + 16N, 32 + 17N, 32 + 17N + 8P and 0, or with points 32 + 17N + 8P + 6V and 1 or 3, and word 6 is
+  -- the length lent
   abbrev pub LaidOut : Header → List ℕ → Type 0
   LaidOut h bytes =
       (((((headerWord bytes 3 ≡ rowsAt) × (headerWord bytes 4 ≡ marksAt f h)) × (headerWord bytes 5 ≡ proposalsAt f h))
-      × (headerWord bytes 6 ≡ wholeLength f h)) × ((h .mode ≡ f .mode) ⊎ (h .mode ≡ f .mode + 1))) × (headerWord bytes 6 ≡ length bytes)
+      × (headerWord bytes 6 ≡ wholeLength f h)) × ((h .mode ≡ f .mode) ⊎ WithPoints h)) × (headerWord bytes 6 ≡ length bytes)
 
   pub laid-out-reads : (h : Header) (bytes : List ℕ) → (laidOut f h bytes ≡ true) ↔ LaidOut h bytes
-  unfolding laidOut hasPoints
+  unfolding laidOut
   laid-out-reads h bytes =
       and-reads
       (and-reads
       (and-reads
       (and-reads (and-reads (eqb-reads (headerWord bytes 3) rowsAt) (eqb-reads (headerWord bytes 4) (marksAt f h))) (eqb-reads (headerWord bytes 5) (proposalsAt f h)))
-      (eqb-reads (headerWord bytes 6) (wholeLength f h))) (or-reads (eqb-reads (h .mode) (f .mode)) (eqb-reads (h .mode) (f .mode + 1))))
+      (eqb-reads (headerWord bytes 6) (wholeLength f h))) (or-reads (eqb-reads (h .mode) (f .mode)) (with-points-reads h)))
       (eqb-reads (headerWord bytes 6) (length bytes))
 
   -- where none of the codes 1 to 3 is given, the header is within its limits and laid out
@@ -294,36 +302,36 @@ module _ (f : Form) (bytes : List ℕ) (lent : Lent) where
 
 -- ---- the run
 
-module _ (f : Form) (outward : Bool) (bytes : List ℕ) (lent : Lent) where
-  pub run-accepted : verdictOn f bytes lent .code ≡ 0 → run f outward bytes lent ≡ accepted outward (jobOf f bytes) lent
+module _ (f : Form) (bytes : List ℕ) (lent : Lent) where
+  pub run-accepted : verdictOn f bytes lent .code ≡ 0 → run f bytes lent ≡ accepted (jobOf f bytes) lent
   unfolding run
   run-accepted e = rw e
 
-  run-refused : verdictOn f bytes lent .code ≢ 0 → run f outward bytes lent ≡ refused f (headerOf bytes) (verdictOn f bytes lent) lent
+  run-refused : verdictOn f bytes lent .code ≢ 0 → run f bytes lent ≡ refused f (headerOf bytes) (verdictOn f bytes lent) lent
   unfolding run
   run-refused ne = rw (ne-eqb (verdictOn f bytes lent .code) 0 ne)
 
   -- its code and place are the verdict's
-  pub run-code : run f outward bytes lent .code ≡ verdictOn f bytes lent .code
+  pub run-code : run f bytes lent .code ≡ verdictOn f bytes lent .code
   unfolding accepted refused
   run-code =
       ⊎-elim (λ e. ap (λ (r : Result). r .code) (run-accepted e) ∙ sym e) (λ ne. ap (λ (r : Result). r .code) (run-refused ne))
       (same-or-not (verdictOn f bytes lent .code) 0)
 
-  run-place : run f outward bytes lent .place ≡ verdictOn f bytes lent .place
+  run-place : run f bytes lent .place ≡ verdictOn f bytes lent .place
   unfolding accepted refused verdictOn
   run-place =
       ⊎-elim (λ e. ap (λ (r : Result). r .place) (run-accepted e) ∙ sym (match-none 1 (zero-lt-suc 0) (jobTests f bytes lent) e))
       (λ ne. ap (λ (r : Result). r .place) (run-refused ne)) (same-or-not (verdictOn f bytes lent .code) 0)
 
   -- a code from 0 to 15
-  pub run-code-below : run f outward bytes lent .code ≤ codes
+  pub run-code-below : run f bytes lent .code ≤ codes
   unfolding verdictOn jobTests layoutTests roomTests tableTests markTests pointTests
   run-code-below = rw run-code (omega (arith, match-below 1 (zero-lt-suc 0) (jobTests f bytes lent)))
 
   module _ (four : f .corners ≡ 4) where
     -- code 1 + i is given at a place exactly if condition i holds there and none before it holds anywhere
-    pub code-exactly : (i place : ℕ) → i < codes → ((run f outward bytes lent .code ≡ 1 + i) × (run f outward bytes lent .place ≡ place)) ↔ FirstOf (jobConditions f bytes lent) i place
+    pub code-exactly : (i place : ℕ) → i < codes → ((run f bytes lent .code ≡ 1 + i) × (run f bytes lent .place ≡ place)) ↔ FirstOf (jobConditions f bytes lent) i place
     unfolding verdictOn jobTests layoutTests roomTests tableTests markTests pointTests
     code-exactly i place l =
         let (forth, back) = first-reads 1 (zero-lt-suc 0) (jobTests f bytes lent) (jobConditions f bytes lent) (codes-read f bytes lent four) i place l in (
@@ -335,7 +343,7 @@ module _ (f : Form) (outward : Bool) (bytes : List ℕ) (lent : Lent) where
         verdict-is e g = λ k. record { code = e k; place = g k }
 
     -- code 0 exactly if no condition holds
-    pub accepted-exactly : (run f outward bytes lent .code ≡ 0) ↔ ((i place : ℕ) → conditionAt (jobConditions f bytes lent) i place → ⊥)
+    pub accepted-exactly : (run f bytes lent .code ≡ 0) ↔ ((i place : ℕ) → conditionAt (jobConditions f bytes lent) i place → ⊥)
     unfolding verdictOn
     accepted-exactly =
         let (forth, back) = none-reads 1 (zero-lt-suc 0) (jobTests f bytes lent) (jobConditions f bytes lent) (codes-read f bytes lent four) in
@@ -347,16 +355,16 @@ module _ (f : Form) (outward : Bool) (bytes : List ℕ) (lent : Lent) where
 
   -- a file that is laid out and reads as a header and a job, with room enough and sections that pass, is run
   pub run-as : (h : Header) (job : Job) → headerOf bytes ≡ h → jobOf f bytes ≡ job → firstMatch 1 (layoutTests f bytes) .code ≡ 0 → (RoomShort f h lent → ⊥)
-      → firstMatch 5 (sectionTests job) .code ≡ 0 → run f outward bytes lent ≡ accepted outward job lent
+      → firstMatch 5 (sectionTests job) .code ≡ 0 → run f bytes lent ≡ accepted job lent
   unfolding verdictOn jobTests layoutTests roomTests
   run-as h job header is laid room sections =
       run-accepted (match-both 1 (zero-lt-suc 0) (layoutTests f bytes) _ laid
       (match-both 4 (zero-lt-suc 3) (roomTests f (headerOf bytes) lent) _ (room-passes (rw header room)) (rw is sections)))
-      ∙ ap (λ (j : Job). accepted outward j lent) is
+      ∙ ap (λ (j : Job). accepted j lent) is
 
   -- ---- what an accepted job keeps
 
-  module _ (ran : run f outward bytes lent .code ≡ 0) where
+  module _ (ran : run f bytes lent .code ≡ 0) where
     pub layout-passed : firstMatch 1 (layoutTests f bytes) .code ≡ 0
     unfolding verdictOn jobTests
     layout-passed = match-parts 1 (zero-lt-suc 0) (layoutTests f bytes) _ (sym run-code ∙ ran) .0
@@ -442,9 +450,9 @@ module _ (f : Form) (outward : Bool) (bytes : List ℕ) (lent : Lent) where
   -- ---- what a refusal leaves
 
   -- zero for both counts, and nothing changed in answers, final marks and triangles
-  pub refusal-keeps : run f outward bytes lent .code ≢ 0
-      → (run f outward bytes lent .taken ≡ 0) × (run f outward bytes lent .triangles ≡ 0) × (run f outward bytes lent .left .answers ≡ lent .answers)
-      × (run f outward bytes lent .left .finalMarks ≡ lent .finalMarks) × (run f outward bytes lent .left .triangles ≡ lent .triangles)
+  pub refusal-keeps : run f bytes lent .code ≢ 0
+      → (run f bytes lent .taken ≡ 0) × (run f bytes lent .triangles ≡ 0) × (run f bytes lent .left .answers ≡ lent .answers)
+      × (run f bytes lent .left .finalMarks ≡ lent .finalMarks) × (run f bytes lent .left .triangles ≡ lent .triangles)
   unfolding refused
   refusal-keeps ne =
       let e = run-refused (λ (z : verdictOn f bytes lent .code ≡ 0). ne (run-code ∙ z)) in (
@@ -456,14 +464,14 @@ module _ (f : Form) (outward : Bool) (bytes : List ℕ) (lent : Lent) where
       )
 
   -- codes 1 to 4 don't touch work
-  pub early-refusal : run f outward bytes lent .code ≢ 0 → run f outward bytes lent .code ≤ 4 → run f outward bytes lent .left .work ≡ lent .work
+  pub early-refusal : run f bytes lent .code ≢ 0 → run f bytes lent .code ≤ 4 → run f bytes lent .left .work ≡ lent .work
   unfolding refused
   early-refusal ne l =
       ap (λ (r : Result). r .left .work) (run-refused (λ (z : verdictOn f bytes lent .code ≡ 0). ne (run-code ∙ z)))
       ∙ rw (le-leb (verdictOn f bytes lent .code) 4 (rw run-code at l))
 
   -- codes 5 to 15 leave zero in its front, for a track 4N words, and the rest unchanged
-  pub late-refusal : 5 ≤ run f outward bytes lent .code → run f outward bytes lent .left .work ≡ replicate (workRoom f (headerOf bytes)) 0 ++ drop (workRoom f (headerOf bytes)) (lent .work)
+  pub late-refusal : 5 ≤ run f bytes lent .code → run f bytes lent .left .work ≡ replicate (workRoom f (headerOf bytes)) 0 ++ drop (workRoom f (headerOf bytes)) (lent .work)
   unfolding refused written
   late-refusal l =
       ap (λ (r : Result). r .left .work) (run-refused (λ (z : verdictOn f bytes lent .code ≡ 0). omega (arith, run-code)))

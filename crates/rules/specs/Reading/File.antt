@@ -1,6 +1,6 @@
 -- Where an id, a mark, a proposal and a point stand in the job file.
 use mathlib.Core.Path.{_≡_, _∙_}
-use mathlib.Core.Logic.{_↔_, _≢_}
+use mathlib.Core.Logic.{_↔_}
 use mathlib.Core.Bool.{Bool, true, false, cond}
 use mathlib.Core.Option.{Option, some, none}
 use mathlib.Core.List.{List}
@@ -9,15 +9,17 @@ use native.Mathlib.Nat.{add-assoc, mul-comm, mul-assoc, mul-suc, mul-le-mul-left
 use native.Mathlib.Omega.{arith}
 use lib.ListN.{getD}
 use lib.Seq.{getD-take, getD-drop}
-use borrow.Author.Tests.{eq-eqb, ne-eqb}
 use Rattle.rules.specs.Words.{word}
 use Rattle.rules.specs.Table.{tableOf}
 use Rattle.rules.specs.Points.{Point, signed, coordinate, pointIn}
 use Rattle.rules.specs.Proposals.{Proposal}
-use Rattle.rules.specs.Job.{Form, headerOf, rowBytes, rowsAt, marksAt, proposalsAt, pointsAt, hasPoints, pointBytes, section, rowsTable, proposalIn, pointsOf, jobOf}
+use Rattle.rules.specs.Job.{Form, headerOf, rowBytes, rowsAt, marksAt, proposalsAt, pointsAt, hasPoints, asksOutward, pointBytes, section, rowsTable, proposalIn, pointsOf, jobOf}
+use Rattle.rules.specs.Laws.Truth.{is-false, eqb-reads}
+use Rattle.rules.specs.Laws.Job.{outward-pointed}
 use Rattle.rules.specs.Laws.Lists.{tabulate-at}
 use Rattle.rules.specs.Laws.Places.{place-below}
 use Rattle.rules.specs.Laws.Words.{word-part}
+use Rattle.rules.specs.Reading.Codes.{WithPoints, with-points-reads}
 
 -- a proposal of a part is one of the whole
 pub proposal-part : (bytes : List ℕ) (start size k : ℕ) → 8 * k + 8 ≤ size
@@ -51,15 +53,28 @@ module _ (f : Form) (bytes : List ℕ) where
       let h = headerOf bytes in
       tabulate-at (h .proposals) _ d k l ∙ proposal-part bytes (proposalsAt f h) (8 * h .proposals) k (omega arith)
 
-  -- there are points exactly if word 7 says so: for a track, if it is 1
-  pub points-exactly : (jobOf f bytes .points ≡ none) ↔ (headerOf bytes .mode ≢ f .mode + 1)
-  unfolding jobOf pointsOf hasPoints
+  -- there are points exactly if word 7 says so: for a track, if it is 1 or 3
+  pub points-exactly : (jobOf f bytes .points ≡ none) ↔ (WithPoints f (headerOf bytes) → ⊥)
+  unfolding jobOf pointsOf
   points-exactly =
-      let held = pointIn (section bytes (pointsAt f (headerOf bytes)) (pointBytes f (headerOf bytes))) in
-      (λ e is. some-none held (rw (eq-eqb (headerOf bytes .mode) (f .mode + 1) is) at e), λ ne. rw (ne-eqb (headerOf bytes .mode) (f .mode + 1) ne))
+      let h = headerOf bytes in
+      let held = pointIn (section bytes (pointsAt f h) (pointBytes f h)) in
+      (λ e is. some-none held (rw (with-points-reads f h .1 is) at e), λ no. rw (is-false (hasPoints f h) (λ e. no (with-points-reads f h .0 e))))
     where
       some-none : (at : ℕ → Point) → _≡_ {A = Option (ℕ → Point)} (some at) none → ⊥
       some-none at e = let z : _≡_ {A = ℕ} 0 1 = cc in omega arith
+
+  -- the skin is to be listed outward exactly if word 7 says so: for a track, if it is 1
+  pub outward-exactly : (jobOf f bytes .outward ≡ true) ↔ (headerOf bytes .mode ≡ f .mode + 1)
+  unfolding jobOf asksOutward
+  outward-exactly = eqb-reads (headerOf bytes .mode) (f .mode + 1)
+
+  -- there are points then
+  pub outward-points : jobOf f bytes .outward ≡ true → (at : ℕ → Point) × (jobOf f bytes .points ≡ some at)
+  unfolding jobOf pointsOf
+  outward-points e =
+      let h = headerOf bytes in
+      (pointIn (section bytes (pointsAt f h) (pointBytes f h)), rw (outward-pointed f h e))
 
   -- for a track the point of id v is the three i16 from byte 32 + 17N + 8P + 6v on
   pub point-stands : (at : ℕ → Point) → jobOf f bytes .points ≡ some at → (v : ℕ) → v < headerOf bytes .ids

@@ -18,26 +18,26 @@ use Rattle.rules.specs.Reading.Rows.{First}
 use Rattle.rules.specs.Reading.Room.{skin-same-length, at-most-2N}
 use Rattle.rules.specs.Reading.Codes.{WithinLimits, limits-read, Shown, sectionConditions, jobConditions, run-accepted, run-code, run-code-below, code-exactly, accepted-closed, accepted-header, refusal-keeps}
 
-module _ (f : Form) (outward : Bool) (bytes : List ℕ) (lent : Lent) (four : f .corners ≡ 4) where
-  module _ (z : run f outward bytes lent .code ≡ 0) where
-    is-accepted : run f outward bytes lent ≡ accepted outward (jobOf f bytes) lent
-    is-accepted = run-accepted f outward bytes lent (sym (run-code f outward bytes lent) ∙ z)
+module _ (f : Form) (bytes : List ℕ) (lent : Lent) (four : f .corners ≡ 4) where
+  module _ (z : run f bytes lent .code ≡ 0) where
+    is-accepted : run f bytes lent ≡ accepted (jobOf f bytes) lent
+    is-accepted = run-accepted f bytes lent (sym (run-code f bytes lent) ∙ z)
 
-    accepted-place : run f outward bytes lent .place ≡ 0
+    accepted-place : run f bytes lent .place ≡ 0
     unfolding accepted
     accepted-place = ap (λ (r : Result). r .place) is-accepted
 
-    accepted-taken : run f outward bytes lent .taken ≤ headerOf bytes .proposals
+    accepted-taken : run f bytes lent .taken ≤ headerOf bytes .proposals
     unfolding accepted
     accepted-taken =
         rw is-accepted (subst (λ (n : ℕ). taken (answersOf (jobOf f bytes)) ≤ n) (job-answers f bytes) (taken-few (answersOf (jobOf f bytes))))
 
-    accepted-triangles : run f outward bytes lent .triangles ≤ 2 * jobOf f bytes .table .rows
+    accepted-triangles : run f bytes lent .triangles ≤ 2 * jobOf f bytes .table .rows
     unfolding accepted
     accepted-triangles =
         let job = jobOf f bytes in
-        rw (is-accepted, skin-same-length (job .table) (insideIn (finalOf job)) (triangleAs (job .table) outward (job .points)))
-        (at-most-2N (job .table) (insideIn (finalOf job)) (accepted-closed f outward bytes lent z .paired) (job-corners f bytes ∙ four))
+        rw (is-accepted, skin-same-length (job .table) (insideIn (finalOf job)) (triangleAs (job .table) (job .outward) (job .points)))
+        (at-most-2N (job .table) (insideIn (finalOf job)) (accepted-closed f bytes lent z .paired) (job-corners f bytes ∙ four))
 
   -- a place is 0, a row or a vertex; that there are few of these is code 2, which comes before
   places : Places (λ place. place ≤ mostRows) (jobConditions f bytes lent)
@@ -87,23 +87,23 @@ module _ (f : Form) (outward : Bool) (bytes : List ℕ) (lent : Lent) (four : f 
           vertex : {P : ℕ → Type 0} (place : ℕ) → First (jobOf f bytes .ids) P place → place ≤ mostRows
           vertex place x = omega (arith, x .below, job-ids f bytes, w .0 .0 .1)
 
-  pub place-small : run f outward bytes lent .place ≤ mostRows
+  pub place-small : run f bytes lent .place ≤ mostRows
   place-small =
-      ⊎-elim (λ (z : run f outward bytes lent .code ≡ 0). rw (accepted-place z) (omega arith)) (λ ne.
-      let i = run f outward bytes lent .code - 1 in
-      first-place (λ place. place ≤ mostRows) (jobConditions f bytes lent) places i (run f outward bytes lent .place)
-      (code-exactly f outward bytes lent four i (run f outward bytes lent .place) (omega (arith, run-code-below f outward bytes lent, ne)) .0 (code-index (run f outward bytes lent .code) ne, refl)))
-      (same-or-not (run f outward bytes lent .code) 0)
+      ⊎-elim (λ (z : run f bytes lent .code ≡ 0). rw (accepted-place z) (omega arith)) (λ ne.
+      let i = run f bytes lent .code - 1 in
+      first-place (λ place. place ≤ mostRows) (jobConditions f bytes lent) places i (run f bytes lent .place)
+      (code-exactly f bytes lent four i (run f bytes lent .place) (omega (arith, run-code-below f bytes lent, ne)) .0 (code-index (run f bytes lent .code) ne, refl)))
+      (same-or-not (run f bytes lent .code) 0)
     where
       code-index : (code : ℕ) → code ≢ 0 → code ≡ 1 + (code - 1)
       code-index code ne = omega (arith, ne)
 
-  pub taken-small : run f outward bytes lent .taken ≤ mostProposals
+  pub taken-small : run f bytes lent .taken ≤ mostProposals
   taken-small =
-      ⊎-elim (λ (z : run f outward bytes lent .code ≡ 0). omega (arith, accepted-taken z, accepted-header f outward bytes lent z .0 .1 .1))
-      (λ ne. omega (arith, refusal-keeps f outward bytes lent ne .0)) (same-or-not (run f outward bytes lent .code) 0)
+      ⊎-elim (λ (z : run f bytes lent .code ≡ 0). omega (arith, accepted-taken z, accepted-header f bytes lent z .0 .1 .1))
+      (λ ne. omega (arith, refusal-keeps f bytes lent ne .0)) (same-or-not (run f bytes lent .code) 0)
 
-  pub triangles-small : run f outward bytes lent .triangles ≤ 2 * mostRows
+  pub triangles-small : run f bytes lent .triangles ≤ 2 * mostRows
   triangles-small =
-      ⊎-elim (λ (z : run f outward bytes lent .code ≡ 0). omega (arith, accepted-triangles z, job-rows f bytes, accepted-header f outward bytes lent z .0 .0 .1 .1))
-      (λ ne. omega (arith, refusal-keeps f outward bytes lent ne .1)) (same-or-not (run f outward bytes lent .code) 0)
+      ⊎-elim (λ (z : run f bytes lent .code ≡ 0). omega (arith, accepted-triangles z, job-rows f bytes, accepted-header f bytes lent z .0 .0 .1 .1))
+      (λ ne. omega (arith, refusal-keeps f bytes lent ne .1)) (same-or-not (run f bytes lent .code) 0)

@@ -12,7 +12,7 @@ look-at-marks-and-points-requires c κs = let r = c .before .before .before .bef
 returns : tie.Need-returns
 returns c =
     let at-if1 = c .before .before .before .before in let at-look = at-if1 .before .before in
-    marks-refused _ _ _ (lent _ _ _ _) (at-look .look-at-marks-and-points .ensures) (at-look .before .before .before .before .before .before .before .before .before .before .pre .1) (at-if1 .if1 .taken) (c .before .before .clear .ensures)
+    marks-refused _ _ (lent _ _ _ _) (at-look .look-at-marks-and-points .ensures) (at-look .before .before .before .before .before .before .before .before .before .before .pre .1) (at-if1 .if1 .taken) (c .before .before .clear .ensures)
 
 grow-requires : tie.Need-grow-requires
 grow-requires c κs =
@@ -22,7 +22,7 @@ grow-requires c κs =
 returns-2 : tie.Need-returns-2
 returns-2 c =
     let at-grow = c .before .before .before .before .before .before in let at-if1 = at-grow .before .before .before .before .before in
-    marks-accepted _ _ _ (lent _ _ _ _) (at-if1 .before .before .look-at-marks-and-points .ensures) (at-if1 .if1 .left) (at-grow .grow .ensures)
+    marks-accepted _ _ (lent _ _ _ _) (at-if1 .before .before .look-at-marks-and-points .ensures) (at-if1 .if1 .left) (at-grow .grow .ensures)
 
 pub run-closed-spec : {M : Type 1} → statement M
 run-closed-spec =

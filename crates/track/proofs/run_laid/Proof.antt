@@ -28,7 +28,7 @@ returns c =
     let at-of-table = c .before .before in let at-check = at-of-table .before .before .before in
     let at-points-at = at-check .before .before .before in let at-proposals-at = at-points-at .before in let at-marks-at = at-proposals-at .before in let at-rows-at = at-marks-at .before in
     table-refused (at-rows-at .before .before .before .before .before .before .pre) (at-rows-at .rows-at .ensures) (at-marks-at .marks-at .ensures) (at-proposals-at .proposals-at .ensures) (at-points-at .points-at .ensures)
-    _ _ (at-check .check .ensures .0) (at-of-table .of-table .ensures) (at-check .check .ensures .1) (c .if1 .taken)
+    _ (at-check .check .ensures .0) (at-of-table .of-table .ensures) (at-check .check .ensures .1) (c .if1 .taken)
 
 sub-marks : tie.Need-sub-marks
 sub-marks c = search needs
@@ -46,8 +46,8 @@ run-closed-requires c κs =
     let start = at-rows-at .before .before .before .before .before .before in
     let rows = at-rows-at .rows-at .ensures in let marks = at-marks-at .marks-at .ensures in let proposals = at-proposals-at .proposals-at .ensures in let points = at-points-at .points-at .ensures in
     let (found, left) = at-check .check .ensures in (
-      ready (start .pre) rows marks proposals points (start .args .outward) _ found (at-of-table .of-table .ensures) left (at-if1 .if1 .left),
-      work-long (start .pre) rows marks proposals points (start .args .outward) _ found (at-of-table .of-table .ensures) left (at-if1 .if1 .left),
+      ready (start .pre) rows marks proposals points _ found (at-of-table .of-table .ensures) left (at-if1 .if1 .left),
+      work-long (start .pre) rows marks proposals points _ found (at-of-table .of-table .ensures) left (at-if1 .if1 .left),
     )
 
 returns-2 : tie.Need-returns-2
@@ -55,7 +55,7 @@ returns-2 c =
     let at-run-closed = c .before .before .before .before .before .before .before .before in let at-if1 = at-run-closed .before .before .before .before .before .before .before .before in let at-of-table = at-if1 .before .before in let at-check = at-of-table .before .before .before in
     let at-points-at = at-check .before .before .before in let at-proposals-at = at-points-at .before in let at-marks-at = at-proposals-at .before in let at-rows-at = at-marks-at .before in
     table-passed (at-rows-at .before .before .before .before .before .before .pre) (at-rows-at .rows-at .ensures) (at-marks-at .marks-at .ensures) (at-proposals-at .proposals-at .ensures) (at-points-at .points-at .ensures)
-    _ _ (at-check .check .ensures .0) (at-of-table .of-table .ensures) (at-check .check .ensures .1) (at-if1 .if1 .left) (at-run-closed .run-closed .ensures)
+    _ (at-check .check .ensures .0) (at-of-table .of-table .ensures) (at-check .check .ensures .1) (at-if1 .if1 .left) (at-run-closed .run-closed .ensures)
 
 pub run-laid-spec : {M : Type 1} → statement M
 run-laid-spec =

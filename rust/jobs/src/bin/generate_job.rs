@@ -1,14 +1,16 @@
 //! Prints the text of a generated job.
 
+use common::Order;
 use jobs::{growth, placed, tables, text, Job, Random};
 use std::env;
 use std::process::ExitCode;
 
-const USAGE: &str = "generate_job FAMILY ROWS STEPS PROPOSALS SEED [inside]
+const USAGE: &str = "generate_job FAMILY ROWS STEPS PROPOSALS SEED [inside] [rising]
 FAMILY is one of `tables::each_family`, or one of `placed::each_family`, which
 have points, and ROWS, at least 200, its most rows.
 The starting marks are what STEPS proposals left, from empty ones, or with
-`inside` from those with the sky inside.";
+`inside` from those with the sky inside. With points the skin is to be listed
+outward, or with `rising` by rising ids.";
 
 fn main() -> ExitCode {
     let arguments: Vec<String> = env::args().skip(1).collect();
@@ -25,7 +27,11 @@ fn main() -> ExitCode {
 }
 
 fn generate(arguments: &[String]) -> Option<String> {
-    let (first, sky) = match arguments {
+    let (first, order) = match arguments {
+        [first @ .., last] if last == "rising" => (first, Order::Rising),
+        first => (first, Order::Outward),
+    };
+    let (first, sky) = match first {
         [first @ .., last] if last == "inside" => (first, 1),
         first => (first, 0),
     };
@@ -45,6 +51,7 @@ fn generate(arguments: &[String]) -> Option<String> {
     };
     let mut job = Job {
         points,
+        order,
         ..table.job()
     };
     let start = growth::even_marks(&table, sky, 0);

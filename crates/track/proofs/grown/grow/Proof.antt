@@ -14,7 +14,7 @@ list-front-requires c κs =
 returns : tie.Need-returns
 returns c =
     let at-list-front = c .before .before in let at-answer-copied = at-list-front .before .before .before .before .before .before .before in let start = at-answer-copied .before .before .before .before .before .before .before .before .before .before .before in
-    grown (start .args .outward) (start .pre .0) (at-answer-copied .answer-copied .ensures .0) (at-answer-copied .answer-copied .ensures .1) (at-answer-copied .answer-copied .ensures .2)
+    grown (start .pre .0) (at-answer-copied .answer-copied .ensures .0) (at-answer-copied .answer-copied .ensures .1) (at-answer-copied .answer-copied .ensures .2)
     (at-list-front .list-front .ensures .0) (at-list-front .list-front .ensures .1)
 
 pub grow-spec : {M : Type 1} → statement M

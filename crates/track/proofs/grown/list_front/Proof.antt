@@ -1,7 +1,9 @@
 use native.Mathlib.Omega.{arith}
 use mathlib.Core.Path.{sym, _∙_}
 use lib.Seq.{length-take-le}
-use Rattle.rules.specs.Laws.Truth.{and-second}
+use Rattle.rules.specs.Job.{track}
+use Rattle.rules.specs.Laws.Job.{outward-pointed}
+use Rattle.job.specs.Reading.{meant}
 use Rattle.track.specs.Stages.{front-listed}
 use borrow.Author.Needs.{needs}
 use Rattle.track.proofs.grown.list_front.Statement.{statement}
@@ -12,15 +14,15 @@ slice-aggregate-list-skin c = sym (length-take-le _ _ (rw (c .before .before .ro
 
 list-skin-requires : tie.Need-list-skin-requires
 list-skin-requires c κs =
-    let at-row-count = c .before .before .before in let at-has-points = c .before .before in let start = c .before .before .before .before .before .before .before .before .before in (
+    let at-row-count = c .before .before .before in let at-asks-outward = c .before .before in let start = c .before .before .before .before .before .before .before .before .before in (
       start .pre .0,
       rw (length-take-le (at-row-count .row-count .result) (start .args .final-marks .now) (rw (at-row-count .row-count .ensures) (start .pre .1))) (omega (arith, at-row-count .row-count .ensures)),
       start .pre .2,
-      λ asked. start .pre .3 (sym (at-has-points .has-points .ensures) ∙ and-second (start .args .outward) (at-has-points .has-points .result) asked),
+      λ asked. start .pre .3 (outward-pointed track (meant (start .args .h)) (sym (at-asks-outward .asks-outward .ensures) ∙ asked)),
     )
 
 returns : tie.Need-returns
-returns c = front-listed _ _ _ _ _ _ (c .before .before .before .before .before .before .row-count .ensures) (c .before .before .before .before .before .has-points .ensures) (c .before .before .list-skin .ensures)
+returns c = front-listed _ _ _ _ _ (c .before .before .before .before .before .before .row-count .ensures) (c .before .before .before .before .before .asks-outward .ensures) (c .before .before .list-skin .ensures)
 
 pub list-front-spec : {M : Type 1} → statement M
 list-front-spec =
