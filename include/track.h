@@ -76,24 +76,24 @@ enum track_kind {
 };
 
 /* What word 7 of a job says: whether it has points, and how the ids of each skin
- * triangle stand in the list. Either way it has the same triangles in the same
- * places. Any other value is TRACK_CODE_LAYOUT.
+ * triangle stand in the list. Whatever it says, the list has the same triangles
+ * in the same places. Any value but these three is TRACK_CODE_LAYOUT.
  *
  * Rising ids say nothing of the side on which the inside lies. Outward, the
  * lowest id is first, and for the triangle a, b, c the normal (b - a) x (c - a)
  * points away from the inside: seen from outside, a, b and c turn
  * counter-clockwise where x, y and z are right-handed. So it points out of the
- * ground where the ground is inside, and into the ground where the air is.
- * Exactly: for the fourth corner d of the inside row the product
+ * ground where the ground is inside, and into the ground where the air is; for
+ * the other way exchange the last two ids of every triangle. Exactly: for the fourth corner d of the inside row the product
  * (b - a) x (c - a) . (d - a) is below zero, so d lies behind; where the inside
  * row is outer, the product for the fourth corner of the outside row is above
  * zero, so that lies in front. Each edge of the skin is then passed once each
  * way.
  *
- * Earlier the caller chose the order, by a parameter of track_run that is gone,
- * and 1 in word 7 said no more than that there are points. To have rising ids of
- * such a job, write 3 there: the word's low byte is at TRACK_WORD_7_AT, and its
- * other three are 0. */
+ * Earlier the caller chose, by a parameter of track_run that is gone, and 1 in
+ * word 7 said no more than that there are points. To have rising ids of such a
+ * job, write 3 there: the word's low byte is at TRACK_WORD_7_AT, and its other
+ * three are 0. In a job without points leave the 0. */
 enum track_word_7 {
     TRACK_WORD_7_NO_POINTS = 0, /* the ids of each triangle rise */
     TRACK_WORD_7_OUTWARD = 1,   /* points; each triangle is outward */
@@ -144,7 +144,7 @@ enum track_code {
     TRACK_CODE_RING = 12,    /* the starting skin is not clean; place: the
                                 lowest skin vertex whose far edges do not form
                                 one ring */
-    /* With points only, in either order. */
+    /* With points only, whether listed outward or rising. */
     TRACK_CODE_POINT = 13,   /* a coordinate outside its limits, or the point of
                                 id 0 not three zeros; place: the lowest such id,
                                 also one that no row holds */
@@ -200,10 +200,10 @@ extern "C" {
  * final_marks  TRACK_FINAL_MARKS_LEN bytes. Code 0 leaves the N marks after the
  *              last proposal.
  * triangles    TRACK_TRIANGLES_LEN words. Code 0 leaves the skin after the last
- *              proposal, three ids for each triangle in the order that word 7
- *              asks for, as many triangles as the outcome says: by inside row,
+ *              proposal, as many triangles as the outcome says, by inside row,
  *              then by the corner of the row that the triangle leaves out, 0 to
- *              3. There are at most 2N.
+ *              3. Each is three ids, outward or rising as word 7 asks. There
+ *              are at most 2N.
  * work         TRACK_WORK_LEN words. Code 0 leaves the neighbour list there:
  *              word 4r + c is the row across the triangle of row r that leaves
  *              out its corner c. Codes 1 to 4 leave work as it was; codes 5 to

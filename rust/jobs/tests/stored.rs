@@ -8,10 +8,10 @@ use std::path::{Path, PathBuf};
 
 const FOLDER: &str = concat!(env!("CARGO_MANIFEST_DIR"), "/../../jobs");
 
-const NAMES: [&str; 30] = [
-    "a", "adds", "b", "beside", "c", "cut", "d", "e", "f", "far", "flat", "folded", "g", "gap",
-    "h", "i", "inward", "j", "largest", "n2049", "n4", "outward", "pinched", "points", "removes",
-    "road", "short31", "sky", "upward", "v6",
+const NAMES: [&str; 31] = [
+    "a", "adds", "b", "beside", "c", "cut", "d", "downward", "e", "f", "far", "flat", "folded",
+    "g", "gap", "h", "i", "inward", "j", "largest", "n2049", "n4", "outward", "pinched", "points",
+    "removes", "road", "short31", "sky", "upward", "v6",
 ];
 
 fn path(name: &str, ending: &str) -> PathBuf {
@@ -77,6 +77,7 @@ fn listings_begin_as_the_documents_say() {
         ("c", "refused 12 1"),
         ("cut", "refused 3 0"),
         ("d", "refused 10 3"),
+        ("downward", "done 0 0 4"),
         ("e", "refused 11 1"),
         ("f", "done 0 0 0"),
         ("far", "refused 13 3"),
@@ -103,18 +104,22 @@ fn listings_begin_as_the_documents_say() {
     assert_eq!(read("a", "out"), read("points", "out"));
 }
 
-/// Of the stored jobs with points two ask for outward, each the twin of one that
-/// asks for rising ids.
+/// Of the stored jobs with points three ask for outward, each the twin of one
+/// that asks for rising ids.
 #[test]
 fn each_order_is_stored() {
     for name in NAMES {
         let Some(each) = outward::in_each_order(&read(name, "job")) else {
             continue;
         };
-        let asks = ["outward", "upward"].contains(&name);
+        let asks = ["downward", "outward", "upward"].contains(&name);
         assert_eq!(each[usize::from(!asks)], read(name, "job"), "{name}");
     }
-    for (name, twin) in [("outward", "points"), ("upward", "road")] {
+    for (name, twin) in [
+        ("downward", "beside"),
+        ("outward", "points"),
+        ("upward", "road"),
+    ] {
         let each = outward::in_each_order(&read(name, "job")).expect(name);
         assert!(each == [read(name, "job"), read(twin, "job")], "{name}");
         assert_ne!(read(name, "out"), read(twin, "out"));
