@@ -138,7 +138,7 @@ module _ (f : Form) (bytes : List ℕ) (limits : WithinLimits f (headerOf bytes)
   fewer k few = record {
     limits = (limits .0, omega (arith, limits .1));
     mode = laid .0 .1;
-    mode-small = ⊎-elim (λ e. omega (arith, e)) (λ points. ⊎-elim (λ e. omega (arith, e)) (λ e. omega (arith, e)) points) (laid .0 .1);
+    mode-small = ⊎-elim (λ e. omega (arith, e)) (⊎-elim (λ e. omega (arith, e)) (λ e. omega (arith, e))) (laid .0 .1);
     small = omega (arith, same-points k);
   }
 

@@ -1,4 +1,4 @@
--- Where an id, a mark, a proposal and a point stand in the job file.
+-- Where an id, a mark, a proposal and a point stand in the job file, and what its word 7 says.
 use mathlib.Core.Path.{_≡_, _∙_}
 use mathlib.Core.Logic.{_↔_}
 use mathlib.Core.Bool.{Bool, true, false, cond}
