@@ -113,7 +113,7 @@ proposalIn bytes k = record { row = word 4 bytes (8 * k); kind = word 4 bytes (8
 unfoldable pub pointsOf : Form → Header → List ℕ → Option (ℕ → Point)
 pointsOf f h bytes = cond (hasPoints f h) (some (pointIn bytes)) none
 
--- V, the rows, the starting marks, the proposals, the points, and whether the skin is to be listed outward
+-- V, the rows, the starting marks, the proposals, the points, and whether the skin is to be listed outward; read by a header
 pub record Job : Type 0 where
   pub ids : ℕ
   pub table : Table
@@ -122,17 +122,18 @@ pub record Job : Type 0 where
   pub points : Option (ℕ → Point)
   pub outward : Bool
 
+abbrev pub jobBy : Form → Header → List ℕ → Job
+jobBy f h bytes = record {
+  ids = h .ids;
+  table = rowsTable f (h .rows) (section bytes rowsAt (rowBytes f * h .rows));
+  marks = section bytes (marksAt f h) (h .rows);
+  proposals = tabulate (h .proposals) (proposalIn (section bytes (proposalsAt f h) (8 * h .proposals)));
+  points = pointsOf f h (section bytes (pointsAt f h) (pointBytes f h));
+  outward = asksOutward f h;
+}
+
 unfoldable pub jobOf : Form → List ℕ → Job
-jobOf f bytes =
-    let h = headerOf bytes in
-    record {
-      ids = h .ids;
-      table = rowsTable f (h .rows) (section bytes rowsAt (rowBytes f * h .rows));
-      marks = section bytes (marksAt f h) (h .rows);
-      proposals = tabulate (h .proposals) (proposalIn (section bytes (proposalsAt f h) (8 * h .proposals)));
-      points = pointsOf f h (section bytes (pointsAt f h) (pointBytes f h));
-      outward = asksOutward f h;
-    }
+jobOf f bytes = jobBy f (headerOf bytes) bytes
 
 -- ---- a job's answers, marks and skins
 

@@ -13,8 +13,9 @@
 --     Room        at most 2N triangles, each once
 --     Listing     the skin list: the triangles between the sides, from either row
 --     Outward     triangles that pass from an id to another, and that face outward
+--     Order       which order a job asks for changes nothing but the order
 --     Small       how large what a run gives can be
---     File        where an id, a mark, a proposal and a point stand in the job file
+--     File        where an id, a mark, a proposal and a point stand in the job file, and what its word 7 says
 pub mod Rows
 pub mod Neighbours
 pub mod Closed
@@ -29,5 +30,6 @@ pub mod Codes
 pub mod Room
 pub mod Listing
 pub mod Outward
+pub mod Order
 pub mod Small
 pub mod File

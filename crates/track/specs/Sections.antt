@@ -13,7 +13,7 @@ use Rattle.rules.specs.Below.{tabulate}
 use Rattle.rules.specs.First.{Test, Verdict, firstMatch}
 use Rattle.rules.specs.Table.{neighbourList}
 use Rattle.rules.specs.Job as rules
-use Rattle.rules.specs.Job.{track, rowBytes, rowsAt, marksAt, proposalsAt, pointsAt, asksOutward, pointBytes, section, rowsTable, proposalIn, pointsOf, Job, jobOf, Lent, workRoom, written, tableTests, Result, accepted, refused}
+use Rattle.rules.specs.Job.{track, rowBytes, rowsAt, marksAt, proposalsAt, pointsAt, asksOutward, pointBytes, section, rowsTable, proposalIn, pointsOf, Job, jobBy, jobOf, Lent, workRoom, written, tableTests, Result, accepted, refused}
 use Rattle.rules.specs.Laws.Truth.{same-or-not}
 use Rattle.rules.specs.Laws.First.{match-append, match-front}
 use Rattle.rules.specs.Laws.Lists.{part-length}
@@ -108,22 +108,12 @@ module _ {h : Header} {job : List ℕ} {buffers : Lent} (l : Laid h job buffers)
   -- they hold the job
   job-is : jobIn h rows marks proposals points ≡ jobOf track job
   unfolding jobOf proposalsIn
-  job-is = (λ k. record { ids = h .ids; table = table-is k; marks = marks-is k; proposals = proposals-are k; points = pointsOf track (meant h) (points-is k); outward = asksOutward track (meant h) }) ∙ ap (λ (x : Header). held (meant x)) (l .is)
+  job-is = (λ k. record { ids = h .ids; table = table-is k; marks = marks-is k; proposals = proposals-are k; points = pointsOf track (meant h) (points-is k); outward = asksOutward track (meant h) }) ∙ ap (λ (x : Header). jobBy track (meant x) job) (l .is)
     where
-      held : rules.Header → Job
-      held x = record {
-        ids = x .ids;
-        table = rowsTable track (x .rows) (section job rowsAt (rowBytes track * x .rows));
-        marks = section job (marksAt track x) (x .rows);
-        proposals = tabulate (x .proposals) (proposalIn (section job (proposalsAt track x) (8 * x .proposals)));
-        points = pointsOf track x (section job (pointsAt track x) (pointBytes track x));
-        outward = asksOutward track x;
-      }
-
-      table-is : tableIn rows ≡ held (meant h) .table
+      table-is : tableIn rows ≡ jobBy track (meant h) job .table
       table-is = table-in rows ∙ ap₂ (λ (n : ℕ) (xs : List ℕ). rowsTable track n xs) counted rows-is
 
-      proposals-are : proposalsIn proposals ≡ held (meant h) .proposals
+      proposals-are : proposalsIn proposals ≡ jobBy track (meant h) job .proposals
       proposals-are = ap₂ (λ (n : ℕ) (xs : List ℕ). tabulate n (proposalIn xs)) proposals-counted proposals-is
 
   module _ (broken : Broken) (found : verdictOf broken ≡ firstMatch 5 (tableTests (tableIn rows) (h .ids))) {o : Outcome} (told : o ≡ refusal (verdictOf broken))

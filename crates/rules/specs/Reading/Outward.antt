@@ -1,5 +1,5 @@
 -- Triangles listed outward, in plain words. A list of triangles is given by its words, three ids each, as they are left in a buffer.
-use mathlib.Core.Path.{_≡_, refl, sym, ap, _∙_, subst, fun-ext}
+use mathlib.Core.Path.{_≡_, refl, ap, _∙_, subst, fun-ext}
 use mathlib.Core.Logic.{_⊎_, inl, inr, ⊎-elim, _≢_}
 use mathlib.Core.Bool.{Bool, true, false, not, _&&_, cond}
 use mathlib.Core.Option.{Option, some, none}
@@ -13,13 +13,10 @@ use Rattle.rules.specs.Table.{Table}
 use Rattle.rules.specs.Skin.{triangle, skinAs, skin}
 use Rattle.rules.specs.Points.{Point}
 use Rattle.rules.specs.Outward.{product, rightWay, exchanged, triangleAs}
-use Rattle.rules.specs.Proposals.{insideIn}
-use Rattle.rules.specs.Job.{Job, finalOf, Lent, sectionTests, accepted}
-use Rattle.rules.specs.Made.{askingFor}
 use Rattle.rules.specs.Laws.Lists.{Among}
 use Rattle.rules.specs.Reading.Rows.{Holds}
 use Rattle.rules.specs.Reading.Outer.{Outer}
-use Rattle.rules.specs.Reading.Room.{triangle-length, skin-same-length}
+use Rattle.rules.specs.Reading.Room.{triangle-length}
 
 -- id i of triangle k, for i = 0, 1 and 2
 abbrev pub listedId : List ℕ → ℕ → ℕ → ℕ
@@ -108,16 +105,3 @@ module _ (t : Table) (outward : Bool) (points : Option (ℕ → Point)) where
     pub listed-ids : (r c : ℕ) → c < t .corners → (u : ℕ) → Among u (triangleAs t outward points r c) → Among u (triangle t r c)
     listed-ids r c l u m =
         ⊎-elim (λ e. subst (Among u) e m) (λ e. exchanged-ids (triangle t r c) (three r c l) u (subst (Among u) e m)) (either-way r c)
-
--- Whichever order a job asks for, the same tests decide, and where it is accepted nothing differs but what is left in triangles: the same
--- counts, answers, final marks and work.
-pub order-alone : (outward : Bool) (job : Job) (lent : Lent)
-    → (sectionTests (askingFor outward job) ≡ sectionTests job)
-    × let r = accepted (askingFor outward job) lent in
-    let s = accepted job lent in
-    (r .taken ≡ s .taken) × (r .triangles ≡ s .triangles) × (r .left .answers ≡ s .left .answers) × (r .left .finalMarks ≡ s .left .finalMarks)
-    × (r .left .work ≡ s .left .work)
-unfolding accepted
-order-alone outward job lent =
-    let as-long = skin-same-length (job .table) (insideIn (finalOf job)) in
-    (refl, (refl, as-long (triangleAs (job .table) outward (job .points)) ∙ sym (as-long (triangleAs (job .table) (job .outward) (job .points))), refl, refl, refl))
