@@ -84,11 +84,11 @@ enum track_kind {
  * points away from the inside: seen from outside, a, b and c turn
  * counter-clockwise where x, y and z are right-handed. So it points out of the
  * ground where the ground is inside, and into the ground where the air is; for
- * the other way exchange the last two ids of every triangle. Exactly: for the fourth corner d of the inside row the product
- * (b - a) x (c - a) . (d - a) is below zero, so d lies behind; where the inside
- * row is outer, the product for the fourth corner of the outside row is above
- * zero, so that lies in front. Each edge of the skin is then passed once each
- * way.
+ * the other way exchange the last two ids of every triangle. Exactly: for the
+ * fourth corner d of the inside row the product (b - a) x (c - a) . (d - a) is
+ * below zero, so d lies behind; where the inside row is outer, the product for
+ * the fourth corner of the outside row is above zero, so that lies in front.
+ * Each edge of the skin is then passed once each way.
  *
  * Earlier the caller chose, by a parameter of track_run that is gone, and 1 in
  * word 7 said no more than that there are points. To have rising ids of such a

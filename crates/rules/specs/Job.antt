@@ -113,7 +113,7 @@ proposalIn bytes k = record { row = word 4 bytes (8 * k); kind = word 4 bytes (8
 unfoldable pub pointsOf : Form → Header → List ℕ → Option (ℕ → Point)
 pointsOf f h bytes = cond (hasPoints f h) (some (pointIn bytes)) none
 
--- V, the rows, the starting marks, the proposals, the points, and whether the skin is to be listed outward; read by a header
+-- V, the rows, the starting marks, the proposals, the points, and whether the skin is to be listed outward
 pub record Job : Type 0 where
   pub ids : ℕ
   pub table : Table
@@ -122,6 +122,7 @@ pub record Job : Type 0 where
   pub points : Option (ℕ → Point)
   pub outward : Bool
 
+-- the job that bytes hold, by a header, and by their own
 abbrev pub jobBy : Form → Header → List ℕ → Job
 jobBy f h bytes = record {
   ids = h .ids;
