@@ -187,7 +187,7 @@ unfoldable pub roomShort : Form → Header → Lent → Bool
 roomShort f h lent = shortRooms f h (length (lent .answers)) (length (lent .finalMarks)) (length (lent .triangles)) (length (lent .work))
 
 -- a buffer with these at its front, and all after them unchanged
-unfoldable pub written : List ℕ → List ℕ → List ℕ
+unfoldable pub written {ℓ} : {A : Type ℓ} → List A → List A → List A
 written xs buffer = xs ++ drop (length xs) buffer
 
 -- ---- job codes: first match decides

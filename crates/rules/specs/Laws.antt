@@ -12,6 +12,7 @@
 --     Proposals  answers and marks, one proposal more
 --     Words      numbers in bytes
 --     Written    a list at the front of a buffer
+--     Copied     a list copied to the front of a buffer, number by number
 --     Job        what a job takes from its header
 --     Made       job files made from their parts
 pub mod Truth
@@ -27,5 +28,6 @@ pub mod Cases
 pub mod Proposals
 pub mod Words
 pub mod Written
+pub mod Copied
 pub mod Job
 pub mod Made

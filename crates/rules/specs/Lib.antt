@@ -1,4 +1,4 @@
--- What document 01 means, with requests (i) to (iii) of document 02, from the bottom up, in their words, each idea in one place:
+-- What document 01 means, with requests (i) to (vi) of document 02, from the bottom up, in their words, each idea in one place:
 --     Below       numbers below a bound: lowest, any, all, count, pick, tabulate
 --     Words       numbers in bytes, low byte first
 --     Shape       corners, triangles and edges of a row, by position
@@ -12,6 +12,7 @@
 --     Proposals   answers, and the marks after them
 --     Job         the file, the fifteen codes, the lent buffers, the run
 --     Made        job files made from their parts
+--     Stl         binary STL: the file, the facet writer, the reader, the job's writer
 -- Laws holds what follows from the definitions one by one. Reading says each sentence of document 01 in plain relations and proves it
 -- equal in meaning to its definition. Worked holds document 01's jobs with known results, and further ones, as computed theorems.
 pub mod Below
@@ -27,6 +28,7 @@ pub mod Cases
 pub mod Proposals
 pub mod Job
 pub mod Made
+pub mod Stl
 pub mod Laws
 pub mod Reading
 pub mod Worked

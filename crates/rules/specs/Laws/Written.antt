@@ -2,6 +2,7 @@
 use mathlib.Core.Path.{_≡_, refl, sym, ap, _∙_}
 use mathlib.Core.List.{List, [], _∷_, _++_, append-nil, append-assoc}
 use Prim.Native.Nat.{ℕ, suc, _+_, _-_, _≤_, _<_}
+use native.Mathlib.Nat.{add-zero}
 use native.Mathlib.Numerals.{add-one}
 use native.Mathlib.Omega.{arith}
 use lib.ListN.{length, getD, set, take, drop, replicate, take-append-drop, drop-of-length-le, length-append, length-drop, length-replicate, List·getD-append, replicate-append-replicate}
@@ -10,41 +11,47 @@ use Rattle.rules.specs.Below.{tabulate}
 use Rattle.rules.specs.Job.{written}
 use Rattle.rules.specs.Laws.Lists.{tabulate-more, tabulate-length}
 
-pub written-none : (d : List ℕ) → d ≡ written [] d
-unfolding written
-written-none d = refl
+module _ {ℓ} {A : Type ℓ} where
+  pub written-none : (d : List A) → d ≡ written [] d
+  unfolding written
+  written-none d = refl
 
-pub written-length : (xs d : List ℕ) → length xs ≤ length d → length (written xs d) ≡ length d
-unfolding written
-written-length xs d l = simp (length-append, length-drop) (omega arith)
+  pub written-length : (xs d : List A) → length xs ≤ length d → length (written xs d) ≡ length d
+  unfolding written
+  written-length xs d l = simp (length-append, length-drop) (omega arith)
+
+  -- one member more
+  pub written-snoc : (xs : List A) (y : A) (d : List A) → length xs < length d → set (written xs d) (length xs) y ≡ written (xs ++ y ∷ []) d
+  unfolding written
+  written-snoc xs y d l =
+      ap (λ (r : List A). set (xs ++ r) (length xs) y) (drop-cons d (length xs) y l)
+      ∙ set-append-seam xs (getD d (length xs) y) (drop (suc (length xs)) d) y
+      ∙ sym (append-snoc xs y (drop (suc (length xs)) d))
+      ∙ ap (λ (n : ℕ). (xs ++ y ∷ []) ++ drop n d) (sym (length-append xs (y ∷ []) ∙ add-one (length xs)))
+
+  -- several members more
+  pub written-run : (ys xs d : List A) (n : ℕ) → n ≡ length xs → n + length ys ≤ length d → sets (written xs d) n ys ≡ written (xs ++ ys) d
+  written-run [] xs d n e l = ap (λ (zs : List A). written zs d) (sym (append-nil xs))
+  written-run (y ∷ ys) xs d n e l =
+      rw e (ap (λ (zs : List A). sets zs (suc (length xs)) ys) (written-snoc xs y d (omega arith)))
+      ∙ written-run ys (xs ++ y ∷ []) d (suc n) (omega (arith, length-append xs (y ∷ []))) (omega arith)
+      ∙ ap (λ (zs : List A). written zs d) (append-snoc xs y ys)
+
+  -- one run of stores behind another
+  pub sets-more : (xs ys d : List A) (p q : ℕ) → q ≡ p + length xs → sets (sets d p xs) q ys ≡ sets d p (xs ++ ys)
+  sets-more [] ys d p q e = ap (λ (k : ℕ). sets d k ys) (e ∙ add-zero p)
+  sets-more (x ∷ xs) ys d p q e = sets-more xs ys (set d p x) (suc p) q (omega arith)
+
+  pub written-more : (n : ℕ) (f : ℕ → A) (d : List A) → n < length d → set (written (tabulate n f) d) n (f n) ≡ written (tabulate (n + 1) f) d
+  written-more n f d l =
+      ap (λ (k : ℕ). set (written (tabulate n f) d) k (f n)) (sym (tabulate-length n f))
+      ∙ written-snoc (tabulate n f) (f n) d (rw (tabulate-length n f) l)
+      ∙ ap (λ (xs : List A). written xs d) (sym (tabulate-more n f))
 
 -- what stands at the front
 pub written-at : (xs d : List ℕ) (k : ℕ) → k < length xs → getD (written xs d) k 0 ≡ getD xs k 0
 unfolding written
 written-at xs d k l = List·getD-append xs (drop (length xs) d) 0 k l
-
--- one number more
-pub written-snoc : (xs : List ℕ) (y : ℕ) (d : List ℕ) → length xs < length d → set (written xs d) (length xs) y ≡ written (xs ++ y ∷ []) d
-unfolding written
-written-snoc xs y d l =
-    ap (λ (r : List ℕ). set (xs ++ r) (length xs) y) (drop-cons d (length xs) 0 l)
-    ∙ set-append-seam xs (getD d (length xs) 0) (drop (suc (length xs)) d) y
-    ∙ sym (append-snoc xs y (drop (suc (length xs)) d))
-    ∙ ap (λ (n : ℕ). (xs ++ y ∷ []) ++ drop n d) (sym (length-append xs (y ∷ []) ∙ add-one (length xs)))
-
--- several numbers more
-pub written-run : (ys xs d : List ℕ) (n : ℕ) → n ≡ length xs → n + length ys ≤ length d → sets (written xs d) n ys ≡ written (xs ++ ys) d
-written-run [] xs d n e l = ap (λ (zs : List ℕ). written zs d) (sym (append-nil xs))
-written-run (y ∷ ys) xs d n e l =
-    rw e (ap (λ (zs : List ℕ). sets zs (suc (length xs)) ys) (written-snoc xs y d (omega arith)))
-    ∙ written-run ys (xs ++ y ∷ []) d (suc n) (omega (arith, length-append xs (y ∷ []))) (omega arith)
-    ∙ ap (λ (zs : List ℕ). written zs d) (append-snoc xs y ys)
-
-pub written-more : (n : ℕ) (f : ℕ → ℕ) (d : List ℕ) → n < length d → set (written (tabulate n f) d) n (f n) ≡ written (tabulate (n + 1) f) d
-written-more n f d l =
-    ap (λ (k : ℕ). set (written (tabulate n f) d) k (f n)) (sym (tabulate-length n f))
-    ∙ written-snoc (tabulate n f) (f n) d (rw (tabulate-length n f) l)
-    ∙ ap (λ (xs : List ℕ). written xs d) (sym (tabulate-more n f))
 
 -- numbers cleared to zero
 pub cleared-more : (n : ℕ) (d : List ℕ) → n < length d → set (written (replicate n 0) d) n 0 ≡ written (replicate (n + 1) 0) d

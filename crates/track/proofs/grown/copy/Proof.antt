@@ -2,7 +2,7 @@ use borrow.Author.Needs.{needs}
 use native.Mathlib.Omega.{arith}
 use Prim.Native.Nat.{_-_}
 use lib.ListN.{length}
-use Rattle.track.specs.Copied.{Copied, copy-begins, copy-turn, copy-ends}
+use Rattle.rules.specs.Laws.Copied.{Copied, copy-begins, copy-turn, copy-ends}
 use Rattle.track.proofs.grown.copy.Statement.{statement}
 use Rattle.track.proofs.grown.copy.Tie as tie
 

@@ -1,4 +1,4 @@
--- A list copied to the front of a buffer, byte by byte.
+-- A list copied to the front of a buffer, number by number.
 use mathlib.Core.Path.{_≡_, sym, ap, _∙_}
 use mathlib.Core.List.{List}
 use Prim.Native.Nat.{ℕ, _+_, _≤_, _<_}
@@ -7,10 +7,10 @@ use native.Mathlib.Numerals.{add-one}
 use native.Mathlib.Omega.{arith}
 use lib.ListN.{length, getD, set, take, length-set}
 use lib.Seq.{length-take-le, take-length, take-suc}
 use Rattle.rules.specs.Job.{written}
 use Rattle.rules.specs.Laws.Written.{written-none, written-snoc}
 
--- i bytes are copied
+-- i numbers are copied
 pub record Copied (from to to₀ : List ℕ) (i : ℕ) : Type 0 where
   pub upto : i ≤ length from
   pub kept : length to ≡ length to₀
