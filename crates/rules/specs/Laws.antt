@@ -15,6 +15,7 @@
 --     Copied     a list copied to the front of a buffer, number by number
 --     Job        what a job takes from its header
 --     Made       job files made from their parts
+--     Stl        lengths of STL files, and their header
 pub mod Truth
 pub mod Below
 pub mod Count
@@ -31,3 +32,4 @@ pub mod Written
 pub mod Copied
 pub mod Job
 pub mod Made
+pub mod Stl
