@@ -6,16 +6,16 @@ use mathlib.Core.Option.{Option, some, Option·getD}
 use Prim.Native.Nat.{ℕ, _^_, _<_}
 use native.Mathlib.Nat.{lt-irrefl}
 use native.Mathlib.Omega.{arith}
-use lib.IntN.{ℤ}
+use lib.IntN.{ℤ, pos}
 use lib.Ieee.{binary32, ofInt, ofBits}
 use lib.Ieee.Bits.{toBits-lt}
 use lib.Ieee.Fits.{div-fits}
-use borrow.Author.Tests.{eqb-true, eq-eqb, not-false}
+use borrow.Author.Tests.{eqb-true, eq-eqb, not-true, not-false}
 use Rattle.rules.specs.Below.{any, lowest}
-use Rattle.rules.specs.Points.{inRange}
+use Rattle.rules.specs.Points.{gridMost, inRange}
 use Rattle.rules.specs.Stl.{metres, bitsOf, gridNumber, writtenFor, bitsOff, unitsOf}
 use Rattle.rules.specs.Laws.Truth.{is-false}
-use Rattle.rules.specs.Laws.Below.{Lowest, is-lowest, lowest-is, any-here, any-some}
+use Rattle.rules.specs.Laws.Below.{Lowest, is-lowest, lowest-is, none-lowest, any-here, any-some, any-none}
 use Rattle.grid.specs.Sweep.{place, place-number, number-in-range, numbered}
 use Rattle.grid.specs.Exact.{bits-one}
 
@@ -41,7 +41,7 @@ named-on bits u n =
     let found = lowest-named bits u n in
     let low = lowest-is 2047 (writtenFor bits) (place u) found in (
       rw (any-here 2047 (writtenFor bits) (place u) (low .below) (low .passes)),
-      ap (λ (o : Option ℕ). gridNumber (Option·getD o 0)) found ∙ numbered u (n .0) .1,
+      ap (λ (o : Option ℕ). gridNumber (Option·getD o gridMost)) found ∙ numbered u (n .0) .1,
     )
 
 pub not-off : (bits : ℕ) → bitsOff bits ≡ false → Names bits (unitsOf bits)
@@ -66,3 +66,8 @@ off bits none = not-false′ (bitsOff bits) (λ h. none (unitsOf bits) (not-off 
 pub bits-small : (u : ℤ) → bitsOf u < 256 ^ 4
 unfolding bitsOf metres
 bits-small u = toBits-lt binary32 (metres u) (div-fits binary32 (ofInt binary32 u) (ofBits binary32 0x4180_0000))
+
+-- they stand for no units
+pub off-zero : (bits : ℕ) → bitsOff bits ≡ true → unitsOf bits ≡ pos 0
+unfolding bitsOff unitsOf gridNumber
+off-zero bits h = ap (λ (o : Option ℕ). gridNumber (Option·getD o gridMost)) (none-lowest 2047 (writtenFor bits) (any-none 2047 (writtenFor bits) (not-true (any 2047 (writtenFor bits)) h)))

@@ -103,12 +103,12 @@ gridNumber k = pos k -ℤ pos gridMost
 abbrev pub writtenFor : ℕ → ℕ → Bool
 writtenFor bits k = eqb bits (bitsOf (gridNumber k))
 
--- they are written for none; the units that they are written for
+-- they are written for none; the units that they are written for, or zero
 unfoldable pub bitsOff : ℕ → Bool
 bitsOff bits = not (any 2047 (writtenFor bits))
 
 unfoldable pub unitsOf : ℕ → ℤ
-unitsOf bits = gridNumber (Option·getD (lowest 2047 (writtenFor bits)) 0)
+unitsOf bits = gridNumber (Option·getD (lowest 2047 (writtenFor bits)) gridMost)
 
 -- the bits of number k of facet f
 unfoldable pub bitsAt : List ℕ → ℕ → ℕ → ℕ

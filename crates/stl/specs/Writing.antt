@@ -1,0 +1,112 @@
+-- The facet writer's answer, as `rules` has it.
+use mathlib.Core.Path.{_≡_, refl, sym, ap, _∙_}
+use mathlib.Core.Bool.{Bool, true, false, not, _||_, cond}
+use mathlib.Core.List.{List, [], _∷_}
+use mathlib.Core.Option.{Option, some, none}
+use Prim.Native.Nat.{ℕ, _+_, _*_, _%_, _≤_, _<_}
+use native.Mathlib.Omega.{arith}
+use lib.Dec.{ltb, eqb}
+use lib.IntN.{ℤ, pos}
+use lib.ListN.{length, getD}
+use borrow.Author.Tests.{ltb-false, not-false}
+use Rattle.rules.specs.Below.{found, lowest}
+use Rattle.rules.specs.First.{given, Verdict, firstMatch}
+use Rattle.rules.specs.Points.{inRange}
+use Rattle.rules.specs.Job.{written}
+use Rattle.rules.specs.Stl.{mostFacets, fileLength, facetsOf, fileOf, writeTests, Wrote, writeFacets}
+use Rattle.rules.specs.Laws.Truth.{or-no-second}
+use Rattle.rules.specs.Laws.Below.{lowest-none}
+use Rattle.stl.specs.Corners.{Numbers, cornerIn, grid-numbers}
+use Rattle.stl.specs.declared.writer.Writing.{Writing}
+use Rattle.stl.specs.declared.writer.Writing.the-variants.{Done, Facets, Number, Room}
+
+-- code and place of an answer
+unfoldable pub verdictOf : Writing → Verdict
+verdictOf Done = record { code = 0; place = 0 }
+verdictOf Facets = record { code = 1; place = 0 }
+verdictOf (Number k) = record { code = 2; place = k }
+verdictOf Room = record { code = 3; place = 0 }
+
+-- an answer, and the lent bytes as left
+abbrev pub told : Writing → List ℕ → Wrote
+told answer left = record { verdict = verdictOf answer; left = left }
+
+-- every number of the list is in range; number k is not
+abbrev pub AllIn : List ℤ → Type 0
+AllIn units = (k : ℕ) → k < length units → inRange (getD units k (pos 0)) ≡ true
+
+abbrev pub strayIn : List ℤ → ℕ → Bool
+strayIn units k = not (inRange (getD units k (pos 0)))
+
+-- the answer to the list and so much room
+unfoldable pub strayed : Option ℕ → Writing → Writing
+strayed (some k) other = Number k
+strayed none other = other
+
+unfoldable pub writing : List ℤ → ℕ → Writing
+writing units room =
+    cond (not (eqb (length units % 9) 0) || ltb mostFacets (facetsOf units)) Facets
+    (strayed (lowest (length units) (strayIn units)) (cond (ltb room (fileLength (facetsOf units))) Room Done))
+
+-- what an answer leaves of the lent bytes
+unfoldable pub leftBy : Writing → List ℤ → List ℕ → List ℕ
+leftBy Done units lent = written (fileOf units) lent
+leftBy Facets units lent = lent
+leftBy (Number k) units lent = lent
+leftBy Room units lent = lent
+
+-- ---- it is the answer of `rules`
+
+first-match : (bad : Bool) (stray : Option ℕ) (short : Bool)
+    → verdictOf (cond bad Facets (strayed stray (cond short Room Done))) ≡ firstMatch 1 ((λ _. given bad) ∷ (λ _. stray) ∷ (λ _. given short) ∷ [])
+unfolding verdictOf strayed firstMatch given found
+first-match true stray short = refl
+first-match false (some k) short = refl
+first-match false none true = refl
+first-match false none false = refl
+
+left-by-code : (a : Writing) (units : List ℤ) (lent : List ℕ) → leftBy a units lent ≡ cond (eqb (verdictOf a .code) 0) (written (fileOf units) lent) lent
+unfolding leftBy verdictOf
+left-by-code Done units lent = refl
+left-by-code Facets units lent = refl
+left-by-code (Number k) units lent = refl
+left-by-code Room units lent = refl
+
+pub told-writing : (units : List ℤ) (lent : List ℕ) {a : Writing} → a ≡ writing units (length lent) → {left : List ℕ} → left ≡ leftBy a units lent → told a left ≡ writeFacets units lent
+unfolding writing writeTests writeFacets
+told-writing units lent {a} is {left} e =
+    let v = first-match (not (eqb (length units % 9) 0) || ltb mostFacets (facetsOf units)) (lowest (length units) (strayIn units)) (ltb (length lent) (fileLength (facetsOf units))) in
+    ap (told a) (e ∙ left-by-code a units lent)
+    ∙ ap (λ (w : Verdict). record { verdict = w; left = cond (eqb (w .code) 0) (written (fileOf units) lent) lent }) (ap verdictOf is ∙ v)
+
+-- ---- what may be written
+
+pub record Writable (units : List ℤ) (room : ℕ) : Type 0 where
+  pub few : facetsOf units ≤ mostFacets
+  pub in-range : AllIn units
+  pub roomy : fileLength (facetsOf units) ≤ room
+
+differ : {A : Type 0} → _≡_ {A = ℕ} 0 1 → A
+differ e = absurd (omega arith)
+
+pub writable : (units : List ℤ) (room : ℕ) → writing units room ≡ Done → Writable units room
+unfolding writing strayed
+writable units room e =
+    go (not (eqb (length units % 9) 0) || ltb mostFacets (facetsOf units)) refl (lowest (length units) (strayIn units)) refl (ltb room (fileLength (facetsOf units))) refl e
+  where
+    go : (bad : Bool) → (not (eqb (length units % 9) 0) || ltb mostFacets (facetsOf units)) ≡ bad → (stray : Option ℕ) → lowest (length units) (strayIn units) ≡ stray
+        → (short : Bool) → ltb room (fileLength (facetsOf units)) ≡ short → cond bad Facets (strayed stray (cond short Room Done)) ≡ Done → Writable units room
+    go true p stray q short r e = differ (cc)
+    go false p (some k) q short r e = differ (cc)
+    go false p none q true r e = differ (cc)
+    go false p none q false r e = record {
+      few = ltb-false mostFacets (facetsOf units) (or-no-second (not (eqb (length units % 9) 0)) (ltb mostFacets (facetsOf units)) p);
+      in-range = λ k l. not-false (inRange (getD units k (pos 0))) (lowest-none (length units) (strayIn units) q k l);
+      roomy = ltb-false room (fileLength (facetsOf units)) r;
+    }
+
+-- three units of the list are no NaNs
+pub numbers-in : (units : List ℤ) → AllIn units → (from : ℕ) → from + 3 ≤ length units → Numbers (cornerIn units from)
+unfolding cornerIn
+numbers-in units on from l =
+    grid-numbers (getD units from (pos 0)) (getD units (from + 1) (pos 0)) (getD units (from + 2) (pos 0)) (on from (omega arith)) (on (from + 1) (omega arith)) (on (from + 2) (omega arith))
