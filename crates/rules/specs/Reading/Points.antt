@@ -66,15 +66,16 @@ same-sign-reads m n = or-reads (and-reads (below-reads m) (below-reads n)) (and-
 abbrev pub InRange : ℤ → Type 0
 InRange z = (negℤ (pos gridMost) ≤ℤ z) × (z ≤ℤ pos gridMost)
 
+pub range-reads : (z : ℤ) → (inRange z ≡ true) ↔ InRange z
+unfolding inRange
+range-reads z = and-reads (most-reads (negℤ (pos gridMost)) z) (most-reads z (pos gridMost))
+
 abbrev pub OnGrid : Point → Type 0
 OnGrid p = (InRange (p .x) × InRange (p .y)) × InRange (p .z)
 
 pub grid-reads : (p : Point) → (onGrid p ≡ true) ↔ OnGrid p
-unfolding onGrid inRange
-grid-reads p = and-reads (and-reads (range (p .x)) (range (p .y))) (range (p .z))
-  where
-    range : (z : ℤ) → (leZ (negℤ (pos gridMost)) z && leZ z (pos gridMost) ≡ true) ↔ InRange z
-    range z = and-reads (most-reads (negℤ (pos gridMost)) z) (most-reads z (pos gridMost))
+unfolding onGrid
+grid-reads p = and-reads (and-reads (range-reads (p .x)) (range-reads (p .y))) (range-reads (p .z))
 
 abbrev pub AtOrigin : Point → Type 0
 AtOrigin p = ((p .x ≡ pos 0) × (p .y ≡ pos 0)) × (p .z ≡ pos 0)

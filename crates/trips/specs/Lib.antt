@@ -1,0 +1,9 @@
+-- Binary STL both ways: what is written is read back, and what is read is written back, for every list and every file.
+--     Silent     no code exactly if no test matches
+--     Writable   the lists that the facet writer takes, in plain relations
+--     Readable   the files that the reader takes, in plain relations
+--     Parts      sections of a list of bytes
+pub mod Silent
+pub mod Writable
+pub mod Readable
+pub mod Parts
