@@ -3,7 +3,11 @@
 --     Writable   the lists that the facet writer takes, in plain relations
 --     Readable   the files that the reader takes, in plain relations
 --     Parts      sections of a list of bytes
+--     Forth      the file of a list is read as that list
+--     Back       the file of what a file is read as is that file
 pub mod Silent
 pub mod Writable
 pub mod Readable
 pub mod Parts
+pub mod Forth
+pub mod Back
