@@ -19,7 +19,7 @@ use Rattle.trips.specs.Readable.{Sound, Readable}
 
 -- ---- the units that are read
 
-units-length : (bytes : List ℕ) → length (unitsIn bytes) ≡ 9 * countIn bytes
+pub units-length : (bytes : List ℕ) → length (unitsIn bytes) ≡ 9 * countIn bytes
 unfolding unitsIn
 units-length bytes = tabulate-length (9 * countIn bytes) (unitAt bytes)
 

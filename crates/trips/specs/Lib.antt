@@ -5,9 +5,11 @@
 --     Parts      sections of a list of bytes
 --     Forth      the file of a list is read as that list
 --     Back       the file of what a file is read as is that file
+--     Trips      the two round trips, and what each call leaves, over the calls' answers
 pub mod Silent
 pub mod Writable
 pub mod Readable
 pub mod Parts
 pub mod Forth
 pub mod Back
+pub mod Trips
