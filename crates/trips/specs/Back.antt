@@ -1,18 +1,17 @@
 -- The file of what a file is read as is that file.
-use mathlib.Core.Path.{_≡_, refl, sym, ap, _∙_}
+use mathlib.Core.Path.{_≡_, sym, ap, _∙_}
 use mathlib.Core.List.{List, _++_}
 use Prim.Native.Nat.{ℕ, _+_, _*_, _/_, _%_, _≤_, _<_}
 use native.Mathlib.Omega.{arith}
-use lib.IntN.{ℤ, pos}
-use lib.ListN.{length, getD, take, drop, replicate, take-append-drop}
+use lib.IntN.{pos}
+use lib.ListN.{length, getD, drop, replicate, take-append-drop}
 use lib.Seq.{drop-drop}
 use Rattle.rules.specs.Below.{gather}
-use Rattle.rules.specs.Words.{word, bytesOf}
+use Rattle.rules.specs.Words.{bytesOf}
 use Rattle.rules.specs.Job.{section}
-use Rattle.rules.specs.Stl.{bitsOf, facetBytes, header, facetsOf, fileOf, fileLength, countIn, facetAt, numberAt, bitsAt, unitsOf, unitAt, unitsIn}
+use Rattle.rules.specs.Stl.{bitsOf, facetBytes, header, facetsOf, fileOf, countIn, facetAt, numberAt, bitsAt, unitsOf, unitAt, unitsIn}
 use Rattle.rules.specs.Reading.Points.{InRange, range-reads}
 use Rattle.rules.specs.Laws.Lists.{tabulate-at, tabulate-length, gather-same}
-use Rattle.grid.specs.Named.{Names}
 use Rattle.trips.specs.Parts.{section-split, sections, sections-behind, section-word}
 use Rattle.trips.specs.Writable.{Writable}
 use Rattle.trips.specs.Readable.{Sound, Readable}

@@ -9,7 +9,7 @@ use lib.ListN.{length, getD, replicate}
 use lib.Seq.{take-at}
 use Rattle.rules.specs.Below.{gather}
 use Rattle.rules.specs.Words.{word, bytesOf}
-use Rattle.rules.specs.Stl.{bitsOf, header, facetBytes, fileLength, facetsOf, fileOf, countIn, facetAt, bitsAt, unitsOf, unitAt, unitsIn}
+use Rattle.rules.specs.Stl.{bitsOf, header, facetBytes, fileLength, facetsOf, fileOf, countIn, facetAt, bitsAt, unitAt, unitsIn}
 use Rattle.rules.specs.Reading.Points.{range-reads}
 use Rattle.rules.specs.Laws.Words.{bytes-length, word-after, word-bytes}
 use Rattle.rules.specs.Laws.Lists.{tabulate-is}

@@ -6,6 +6,7 @@
 --     Forth      the file of a list is read as that list
 --     Back       the file of what a file is read as is that file
 --     Trips      the two round trips, and what each call leaves, over the calls' answers
+--     Worked     numbers off the grid and on it, and the file of the empty list
 pub mod Silent
 pub mod Writable
 pub mod Readable
@@ -13,3 +14,4 @@ pub mod Parts
 pub mod Forth
 pub mod Back
 pub mod Trips
+pub mod Worked

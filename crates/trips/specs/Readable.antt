@@ -1,9 +1,9 @@
 -- The files that the reader takes.
-use mathlib.Core.Path.{_≡_, refl, sym, ap, _∙_}
-use mathlib.Core.Bool.{Bool, true, false, not, cond, _&&_, _||_}
+use mathlib.Core.Path.{_≡_, refl, ap}
+use mathlib.Core.Bool.{Bool, true, false, not, cond, _||_}
 use mathlib.Core.Logic.{_↔_}
 use mathlib.Core.List.{List}
-use mathlib.Core.Option.{Option, none}
+use mathlib.Core.Option.{none}
 use Prim.Native.Nat.{ℕ, _+_, _*_, _≤_, _<_}
 use native.Mathlib.Nat.{zero-lt-suc}
 use native.Mathlib.Omega.{arith}
@@ -11,12 +11,11 @@ use lib.Dec.{eqb, ltb}
 use lib.IntN.{ℤ}
 use lib.ListN.{length, take}
 use borrow.Author.Tests.{eqb-true, eq-eqb, ltb-false, le-ltb, not-false}
-use Rattle.rules.specs.Below.{any, lowest}
 use Rattle.rules.specs.Words.{word}
 use Rattle.rules.specs.First.{Verdict, firstMatch}
 use Rattle.rules.specs.Job.{written}
 use Rattle.rules.specs.Stl as Stl
-use Rattle.rules.specs.Stl.{mostFacets, fileLength, header, facetAt, countIn, illSized, blank, bitsOff, bitsAt, unitsOf, unitsIn, faulty, firstFault, marked, readTests, readFile, Read}
+use Rattle.rules.specs.Stl.{mostFacets, fileLength, header, facetAt, countIn, illSized, blank, bitsAt, unitsOf, unitsIn, faulty, firstFault, marked, readTests, readFile, Read}
 use Rattle.rules.specs.Laws.Truth.{and-first, and-second, and-both, or-no-first, or-no-second, or-neither}
 use Rattle.rules.specs.Laws.Below.{lowest-none, none-lowest, any-none, none-any}
 use Rattle.rules.specs.Laws.Stl.{headed-reads}

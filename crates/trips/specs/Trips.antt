@@ -1,18 +1,16 @@
 -- The two round trips, and what each call leaves, over the calls' answers.
-use mathlib.Core.Path.{_≡_, refl, ap, _∙_}
+use mathlib.Core.Path.{_≡_, ap, _∙_}
 use mathlib.Core.List.{List}
 use mathlib.Core.Option.{none}
 use Prim.Native.Nat.{ℕ, _*_, _≤_, _<_}
-use native.Mathlib.Omega.{arith}
 use lib.IntN.{ℤ}
 use lib.ListN.{length, getD, take, drop}
 use lib.Seq.{take-at}
-use Rattle.rules.specs.First.{Verdict}
 use Rattle.rules.specs.Job.{written}
-use Rattle.rules.specs.Stl.{fileLength, facetsOf, fileOf, Wrote, writeTests, writeFacets, countIn, unitsIn, Read, readTests, readFile}
+use Rattle.rules.specs.Stl.{fileLength, facetsOf, fileOf, Wrote, writeFacets, countIn, unitsIn, Read, readFile}
 use Rattle.rules.specs.Laws.Stl.{file-length}
-use Rattle.trips.specs.Writable.{Writable, wrote-exactly, wrote-whole}
-use Rattle.trips.specs.Readable.{Readable, read-exactly, read-whole, read-verdict}
+use Rattle.trips.specs.Writable.{wrote-whole}
+use Rattle.trips.specs.Readable.{read-whole, read-verdict}
 use Rattle.trips.specs.Forth.{file-count, file-readable, file-units}
 use Rattle.trips.specs.Back.{units-length, units-file, units-writable}
 pub use Rattle.trips.specs.Writable.{Writable, wrote-exactly}
