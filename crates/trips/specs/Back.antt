@@ -22,7 +22,7 @@ pub units-length : (bytes : List ℕ) → length (unitsIn bytes) ≡ 9 * countIn
 unfolding unitsIn
 units-length bytes = tabulate-length (9 * countIn bytes) (unitAt bytes)
 
-pub units-facets : (bytes : List ℕ) → facetsOf (unitsIn bytes) ≡ countIn bytes
+units-facets : (bytes : List ℕ) → facetsOf (unitsIn bytes) ≡ countIn bytes
 unfolding facetsOf
 units-facets bytes = omega (arith, units-length bytes)
 
@@ -69,18 +69,24 @@ module _ (bytes : List ℕ) (small : (k : ℕ) → getD bytes k 0 < 256) where
   pub units-file : (room : ℕ) → Readable bytes room → fileOf (unitsIn bytes) ≡ bytes
   unfolding fileOf countIn
   units-file room r =
-      let n = countIn bytes in
-      let units = unitsIn bytes in
-      let counted : section bytes 80 4 ≡ bytesOf 4 n = section-word bytes small 80 4 (omega (arith, r .long)) in
-      let facets : drop 84 bytes ≡ gather n (λ f. facetBytes units (9 * f)) =
-      sections-behind bytes 84 50 n (r .long)
-      ∙ gather-same n _ (λ f. facetBytes units (9 * f)) (λ f l. facet-section f l (omega (arith, r .long)) (r .sound f l)) in
-      ap (λ (m : ℕ). header ++ (bytesOf 4 m ++ gather m (λ f. facetBytes units (9 * f)))) (units-facets bytes)
+      ap (λ (m : ℕ). header ++ (bytesOf 4 m ++ gather m facet)) (units-facets bytes)
       ∙ ap (λ (rest : List ℕ). header ++ (bytesOf 4 n ++ rest)) (sym facets ∙ sym (drop-drop 4 80 bytes))
       ∙ ap (λ (four : List ℕ). header ++ (four ++ drop 4 (drop 80 bytes))) (sym counted)
       ∙ ap (λ (rest : List ℕ). header ++ rest) (take-append-drop 4 (drop 80 bytes))
       ∙ ap (λ (front : List ℕ). front ++ drop 80 bytes) (sym (r .headed))
       ∙ take-append-drop 80 bytes
+    where
+      n : ℕ
+      n = countIn bytes
+
+      facet : ℕ → List ℕ
+      facet f = facetBytes (unitsIn bytes) (9 * f)
+
+      counted : section bytes 80 4 ≡ bytesOf 4 n
+      counted = section-word bytes small 80 4 (omega (arith, r .long))
+
+      facets : drop 84 bytes ≡ gather n facet
+      facets = sections-behind bytes 84 50 n (r .long) ∙ gather-same n _ facet (λ f l. facet-section f l (omega (arith, r .long)) (r .sound f l))
 
 -- what is read is on the grid
 units-on : (bytes : List ℕ) (room : ℕ) → Readable bytes room → (k : ℕ) → k < length (unitsIn bytes) → InRange (getD (unitsIn bytes) k (pos 0))

@@ -47,7 +47,8 @@ facet-attribute units from = refl
 -- ---- the file's words
 
 module _ (units : List ℤ) where
-  facet-word : (f : ℕ) → f < facetsOf units → (width place : ℕ) → place + width ≤ 50 → word width (fileOf units) (facetAt f + place) ≡ word width (facetBytes units (9 * f)) place
+  facet-word : (f : ℕ) → f < facetsOf units → (width place : ℕ) → place + width ≤ 50
+      → word width (fileOf units) (facetAt f + place) ≡ word width (facetBytes units (9 * f)) place
   unfolding fileOf
   facet-word f l width place fits =
       let n = facetsOf units in

@@ -54,7 +54,8 @@ module _ (size : ℕ) (g : ℕ → List ℕ) (sized : (f : ℕ) → length (g f)
       (eq-or-lt-of-le (le-of-suc-le-suc l))
 
   -- a word inside one of them
-  pub gathered-word : (n f : ℕ) → f < n → (rest : List ℕ) (width place : ℕ) → place + width ≤ size → word width (gather n g ++ rest) (size * f + place) ≡ word width (g f) place
+  pub gathered-word : (n f : ℕ) → f < n → (rest : List ℕ) (width place : ℕ) → place + width ≤ size
+      → word width (gather n g ++ rest) (size * f + place) ≡ word width (g f) place
   gathered-word n f l rest width place fits =
       sym (word-part width (gather n g ++ rest) (size * f) size place fits) ∙ ap (λ (bytes : List ℕ). word width bytes place) (gathered-section n f l rest)
 

@@ -51,7 +51,7 @@ sound-exactly bytes f = (
       (none-any 9 _ (λ k l. named-on (bitsAt bytes f k) (unitsOf (bitsAt bytes f k)) (s .numbers k l) .0)),
 )
 
--- the length
+-- the length is what the count asks for, so never under 84
 sized-exactly : (bytes : List ℕ) → (illSized bytes ≡ false) ↔ ((length bytes ≡ fileLength (countIn bytes)) × (countIn bytes ≤ mostFacets))
 unfolding illSized
 sized-exactly bytes =
@@ -62,7 +62,9 @@ sized-exactly bytes =
         eqb-true (length bytes) (fileLength (countIn bytes)) (not-false same (or-no-second (short || many) (not same) e)),
         ltb-false mostFacets (countIn bytes) (or-no-second short many (or-no-first (short || many) (not same) e)),
       ),
-      λ (long, few). or-neither (or-neither (le-ltb (length bytes) 84 (omega arith)) (le-ltb mostFacets (countIn bytes) few)) (ap not (eq-eqb (length bytes) (fileLength (countIn bytes)) long)),
+      λ (long, few). or-neither
+          (or-neither (le-ltb (length bytes) 84 (omega arith)) (le-ltb mostFacets (countIn bytes) few))
+          (ap not (eq-eqb (length bytes) (fileLength (countIn bytes)) long)),
     )
 
 module _ (bytes : List ℕ) (room : ℕ) where
@@ -79,9 +81,10 @@ module _ (bytes : List ℕ) (room : ℕ) where
           sound = λ f l. sound-exactly bytes f .0 (lowest-none (countIn bytes) (faulty bytes) clear f l);
         },
     λ r.
+        let top = given-silent (not (Stl.headed bytes)) .1 (ap not (headed-reads bytes (omega (arith, r .long)) .1 (r .headed))) in
         let clear : firstFault bytes ≡ none = none-lowest (countIn bytes) (faulty bytes) (λ f l. sound-exactly bytes f .1 (r .sound f l)) in (
           given-silent _ .1 (sized-exactly bytes .1 (r .long, r .few)),
-          (given-silent _ .1 (ap not (headed-reads bytes (omega (arith, r .long)) .1 (r .headed))), (given-silent _ .1 (le-ltb room (9 * countIn bytes) (r .roomy)), (ap (marked bytes) clear, (clear, tt)))),
+          (top, (given-silent _ .1 (le-ltb room (9 * countIn bytes) (r .roomy)), (ap (marked bytes) clear, (clear, tt)))),
         ),
   )
 

@@ -40,7 +40,8 @@ wrote-front units lent zero-code =
 
 -- Code 0 of the reader: it tells the file's count, the lent units begin with the file's nine a facet, and all behind them is unchanged.
 pub read-front : (bytes : List ℕ) (lent : List ℤ) → readFile bytes lent .verdict .code ≡ 0
-    → (readFile bytes lent .left ≡ written (unitsIn bytes) lent) × (readFile bytes lent .facets ≡ countIn bytes) × (take (9 * countIn bytes) (readFile bytes lent .left) ≡ unitsIn bytes)
+    → (readFile bytes lent .left ≡ written (unitsIn bytes) lent) × (readFile bytes lent .facets ≡ countIn bytes)
+    × (take (9 * countIn bytes) (readFile bytes lent .left) ≡ unitsIn bytes)
 read-front bytes lent zero-code =
     let whole = read-whole bytes lent (read-readable bytes lent zero-code) in
     let left : readFile bytes lent .left ≡ written (unitsIn bytes) lent = ap (λ (r : Read). r .left) whole in

@@ -50,6 +50,7 @@ module _ (units : List ℤ) (room : ℕ) where
       (λ e. silent-writable .0 (silent e), λ w. coded (silent-writable .1 w))
 
 -- its answer, and the lent bytes as left
-pub wrote-whole : (units : List ℤ) (lent : List ℕ) → Writable units (length lent) → writeFacets units lent ≡ record { verdict = record { code = 0; place = 0 }; left = written (fileOf units) lent }
+pub wrote-whole : (units : List ℤ) (lent : List ℕ) → Writable units (length lent)
+    → writeFacets units lent ≡ record { verdict = record { code = 0; place = 0 }; left = written (fileOf units) lent }
 unfolding writeFacets
 wrote-whole units lent w = rw (silent-verdict 1 (writeTests units (length lent)) (silent-writable units (length lent) .1 w))
