@@ -18,8 +18,9 @@ use Rattle.rules.specs.Reading.Outward.{three-each, listed-ids}
 use Rattle.manifold.specs.Jobs.{job-alike}
 use Rattle.track.specs.declared.Outcome.{Outcome}
 use Rattle.track.specs.Outcomes.{result}
+use Rattle.track.specs.Accepted.{job-accepted}
 use Rattle.demands.specs.Demands.{Demand2, FiniteSkin}
-use Rattle.demands.specs.Grown.{job-accepted, demand-2}
+use Rattle.demands.specs.Grown.{demand-2}
 
 module _ (bytes : List ℕ) (before : Lent) {o : Outcome} {after : Lent} (ran : result o after ≡ run track bytes before) (zero-code : o .code ≡ 0) where
   abbrev job : Job

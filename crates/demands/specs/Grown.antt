@@ -20,64 +20,26 @@ use Rattle.rules.specs.Reading.Answers.{answer-exactly, taken-exactly}
 use Rattle.rules.specs.Reading.Skin.{inside-reads}
 use Rattle.rules.specs.Reading.Room.{skin-same-length, skin-once, skin-listed}
 use Rattle.rules.specs.Reading.Listing.{triangle-rises, sides-listed, skin-order}
-use Rattle.rules.specs.Reading.Codes.{run-accepted, run-code, accepted-closed}
 use Rattle.manifold.specs.Steps.{after-taken, after-refused}
 use Rattle.track.specs.declared.Outcome.{Outcome}
 use Rattle.track.specs.Outcomes.{result}
+use Rattle.track.specs.Accepted.{job-accepted, job-closed, answers-are, marks-are, triangles-are, work-is, taken-is, triangles-is, place-is}
 use Rattle.demands.specs.Demands.{proposalAt, Demand2}
-use Rattle.demands.specs.Given.{code-is}
 
 module _ (bytes : List ℕ) (before : Lent) {o : Outcome} {after : Lent} (ran : result o after ≡ run track bytes before) (zero-code : o .code ≡ 0) where
   abbrev job : Job
   job = jobOf track bytes
 
-  pub job-accepted : run track bytes before .code ≡ 0
-  job-accepted = sym (code-is bytes before ran) ∙ zero-code
-
-  pub job-closed : Closed (job .table) (job .ids)
-  job-closed = accepted-closed track bytes before job-accepted
-
-  is : result o after ≡ accepted job before
-  is = ran ∙ run-accepted track bytes before (sym (run-code track bytes before) ∙ job-accepted)
-
-  pub answers-are : after .answers ≡ written (answersOf job) (before .answers)
-  unfolding accepted
-  answers-are = ap (λ (r : Result). r .left .answers) is
-
-  pub marks-are : after .finalMarks ≡ written (finalOf job) (before .finalMarks)
-  unfolding accepted
-  marks-are = ap (λ (r : Result). r .left .finalMarks) is
-
-  triangles-are : after .triangles ≡ written (flatten (listedOf job)) (before .triangles)
-  unfolding accepted
-  triangles-are = ap (λ (r : Result). r .left .triangles) is
-
-  work-is : after .work ≡ written (neighbourList (job .table)) (before .work)
-  unfolding accepted
-  work-is = ap (λ (r : Result). r .left .work) is
-
-  pub taken-is : o .taken ≡ taken (answersOf job)
-  unfolding accepted
-  taken-is = ap (λ (r : Result). r .taken) is
-
-  triangles-is : o .triangles ≡ length (skinWith job (finalOf job))
-  unfolding accepted
-  triangles-is = ap (λ (r : Result). r .triangles) is ∙ skin-same-length (job .table) (insideIn (finalOf job)) _
-
-  place-is : o .place ≡ 0
-  unfolding accepted
-  place-is = ap (λ (r : Result). r .place) is
-
   -- ---- the answers
 
   taken-told : o .taken ≡ taken (take (headerOf bytes .proposals) (after .answers))
   unfolding written
-  taken-told = taken-is ∙ ap taken (sym (ap (take (headerOf bytes .proposals)) answers-are ∙ take-at (answersOf job) _ _ (job-answers track bytes)))
+  taken-told = taken-is bytes before ran zero-code ∙ ap taken (sym (ap (take (headerOf bytes .proposals)) (answers-are bytes before ran zero-code) ∙ take-at (answersOf job) _ _ (job-answers track bytes)))
 
   -- answer k is that to proposal k on the marks that the proposals before it left
   pub each-answer : (k : ℕ) → k < headerOf bytes .proposals → getD (after .answers) k 0 ≡ answer (job .table) (standing job k) (proposalAt job k)
   each-answer k l =
-      ap (λ (xs : List ℕ). getD xs k 0) answers-are
+      ap (λ (xs : List ℕ). getD xs k 0) (answers-are bytes before ran zero-code)
       ∙ written-at (answersOf job) (before .answers) k (rw (job-answers track bytes) l)
       ∙ answer-at (job .table) (job .marks) (job .proposals) _ k (rw (job-proposals track bytes) l)
 
@@ -94,9 +56,9 @@ module _ (bytes : List ℕ) (before : Lent) {o : Outcome} {after : Lent} (ran : 
       let t = job .table in
       let four = job-corners track bytes in
       let lc : c < t .corners = rw four l in
-      let other = across-is (job-closed .paired) r c lr lc in (
+      let other = across-is (job-closed bytes before ran zero-code .paired) r c lr lc in (
         other,
-        ap (λ (xs : List ℕ). getD xs (4 * r + c) 0) work-is
+        ap (λ (xs : List ℕ). getD xs (4 * r + c) 0) (work-is bytes before ran zero-code)
             ∙ written-at (neighbourList t) (before .work) (4 * r + c) (rw (list-length t, four) (omega arith))
             ∙ ap (λ (n : ℕ). getD (neighbourList t) (n * r + c) 0) (sym four)
             ∙ list-at t r c lr lc
@@ -118,20 +80,20 @@ module _ (bytes : List ℕ) (before : Lent) {o : Outcome} {after : Lent} (ran : 
         taken-flips = λ k l e. next k l ∙ after-taken t (standing job k) (proposalAt job k) (sym (each-answer k l) ∙ e);
         refused-keeps = λ k l ne. next k l ∙ after-refused t (standing job k) (proposalAt job k) (λ e. ne (each-answer k l ∙ e));
         ends = final-is;
-        listed-exactly = sides-listed t four (job-closed .paired) (insideIn (finalOf job)) told;
+        listed-exactly = sides-listed t four (job-closed bytes before ran zero-code .paired) (insideIn (finalOf job)) told;
         ids-rise = λ ids m.
             let x = skin-listed t (insideIn (finalOf job)) (triangle t) told ids .0 m in
-            let (a, b, c, ab, bc, e) = triangle-rises t four (job-closed .paired) (x .row) (x .corner) (x .row-below) (rw four at (x .corner-below)) in
+            let (a, b, c, ab, bc, e) = triangle-rises t four (job-closed bytes before ran zero-code .paired) (x .row) (x .corner) (x .row-below) (rw four at (x .corner-below)) in
             (a, b, c, ab, bc, x .ids-are ∙ e);
-        listed-once = skin-once t (insideIn (finalOf job)) (job-closed .paired) four;
-        in-order = skin-order t four (job-closed .paired) (insideIn (finalOf job)) told;
+        listed-once = skin-once t (insideIn (finalOf job)) (job-closed bytes before ran zero-code .paired) four;
+        in-order = skin-order t four (job-closed bytes before ran zero-code .paired) (insideIn (finalOf job)) told;
         neighbour-at =
             subst (λ (n : ℕ). (r c : ℕ) → r < n → c < 4 → (other : TheOther n (Side t r c) r) × (getD (after .work) (4 * r + c) 0 ≡ other .other)) (job-rows track bytes) neighbour;
         taken-counted = taken-told;
-        triangles-counted = triangles-is;
-        place-zero = place-is;
-        answers-left = answers-are;
-        marks-left = marks-are;
-        triangles-left = triangles-are;
-        work-left = work-is;
+        triangles-counted = triangles-is bytes before ran zero-code ∙ skin-same-length (job .table) (insideIn (finalOf job)) _;
+        place-zero = place-is bytes before ran zero-code;
+        answers-left = answers-are bytes before ran zero-code;
+        marks-left = marks-are bytes before ran zero-code;
+        triangles-left = triangles-are bytes before ran zero-code;
+        work-left = work-is bytes before ran zero-code;
       }

@@ -22,8 +22,9 @@ use Rattle.manifold.specs.Jobs.{job-every-step}
 use Rattle.outward.specs.Outward.{as-rising, faces, each-way}
 use Rattle.track.specs.declared.Outcome.{Outcome}
 use Rattle.track.specs.Outcomes.{result}
+use Rattle.track.specs.Accepted.{job-accepted, job-closed}
 use Rattle.demands.specs.Demands.{Demand2, OutwardSkin}
-use Rattle.demands.specs.Grown.{job-accepted, job-closed, demand-2}
+use Rattle.demands.specs.Grown.{demand-2}
 use Rattle.demands.specs.Finite.{listed-many, skin-finite}
 
 module _ (bytes : List ℕ) (before : Lent) {o : Outcome} {after : Lent} (ran : result o after ≡ run track bytes before) (zero-code : o .code ≡ 0) where

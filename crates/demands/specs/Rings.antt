@@ -22,8 +22,9 @@ use Rattle.manifold.specs.Steps.{flipped, taken-earlier, refused-earlier, undoi
 use Rattle.manifold.specs.Jobs.{job-every-step, job-five-cases, job-backwards, cut-run, undone-run}
 use Rattle.track.specs.declared.Outcome.{Outcome}
 use Rattle.track.specs.Outcomes.{result}
+use Rattle.track.specs.Accepted.{job-accepted, job-closed, answers-are, marks-are, taken-is}
 use Rattle.demands.specs.Demands.{proposalAt, CleanWith, PassesAt, OnSkinAt, marksBack, backwards, Demand3}
-use Rattle.demands.specs.Grown.{job-accepted, job-closed, answers-are, marks-are, taken-is, each-answer, final-is}
+use Rattle.demands.specs.Grown.{each-answer, final-is}
 
 module _ (bytes : List ℕ) (before : Lent) {o : Outcome} {after : Lent} (ran : result o after ≡ run track bytes before) (zero-code : o .code ≡ 0) where
   abbrev job : Job

@@ -3,7 +3,7 @@ use mathlib.Core.Path.{_≡_, refl, sym, ap, _∙_, subst, subst₂}
 use mathlib.Core.Logic.{_⊎_, ⊎-elim}
 use mathlib.Core.Bool.{Bool, true}
 use mathlib.Core.Option.{Option, some}
-use mathlib.Core.List.{List, [], _∷_, _++_, map, flatten, append-assoc, List·Memᴰ·head, List·Memᴰ·tail, List·Memᴰ·not-nil, List·Memᴰ·cases-cons}
+use mathlib.Core.List.{List, [], _∷_, _++_, map, flatten, append-assoc, List·Memᴰ·not-nil, List·Memᴰ·cases-cons}
 use Prim.Native.Nat.{ℕ, zero, suc, _+_, _*_, _/_, _%_, _<_}
 use native.Mathlib.Nat.{not-suc-le-zero, le-of-suc-le-suc, zero-lt-suc, mod-lt, div-add-mod}
 use native.Mathlib.Omega.{arith}
@@ -17,17 +17,12 @@ use Rattle.rules.specs.Proposals.{insideIn}
 use Rattle.rules.specs.Points.{Point}
 use Rattle.rules.specs.Outward.{exchanged, triangleAs}
 use Rattle.rules.specs.Laws.Truth.{and-first, and-second, and-both}
-use Rattle.rules.specs.Laws.Lists.{Among, in-pick, pick-in, Distinct, pick-distinct, map-pick}
+use Rattle.rules.specs.Laws.Lists.{Among, among-at, in-pick, pick-in, Distinct, pick-distinct, map-pick}
 use Rattle.rules.specs.Laws.Places.{row-of, within-row, row-below, place-below}
 use Rattle.rules.specs.Reading.Room.{listedAt, skin-by-place}
 use Rattle.rules.specs.Reading.Outward.{AsRising, listedId, either-way}
 
 -- ---- numbers in a list
-
-among-at : (xs : List ℕ) (k : ℕ) → k < length xs → Among (getD xs k 0) xs
-among-at [] k l = absurd (not-suc-le-zero l)
-among-at (x ∷ xs) zero l = List·Memᴰ·head refl
-among-at (x ∷ xs) (suc k) l = List·Memᴰ·tail (among-at xs k (le-of-suc-le-suc l))
 
 at-among : (xs : List ℕ) (u : ℕ) → Among u xs → (k : ℕ) × (k < length xs) × (getD xs k 0 ≡ u)
 at-among [] u m = absurd (List·Memᴰ·not-nil m)

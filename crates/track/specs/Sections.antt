@@ -29,6 +29,7 @@ use Rattle.table.specs.Closed.{verdictOf, leftOf}
 use Rattle.growth.specs.Answers.{proposalsIn}
 use Rattle.track.specs.declared.Outcome.{Outcome}
 use Rattle.track.specs.Outcomes.{lent, result, refusal}
+use Rattle.track.specs.Cut.{counted, marks-is, points-is, proposals-counted, job-is}
 use Rattle.track.specs.Stages.{decided, jobIn, fromTable, laterTests, fromMarks, late, all-zero, Ready, Laid}
 
 -- a refused table leaves zeros, a closed one what was written
@@ -65,8 +66,8 @@ same-left h tests code l job answers final triangles work work₀ fits ew =
     over : written (replicate (workRoom track h) 0) (written list work₀) ≡ written (replicate (workRoom track h) 0) work₀
     over = written-over (replicate (workRoom track h) 0) list work₀ (rw (length-replicate {A = ℕ} (workRoom track h) 0, fits) (le-refl (length list)))
 
-module _ {h : Header} {job : List ℕ} {buffers : Lent} (l : Laid h job buffers) {a b c : ℕ} (ea : a ≡ rowsAt) (eb : b ≡ marksAt track (meant h)) (ec : c ≡ proposalsAt track (meant h))
-    {d : ℕ} (ed : d ≡ pointsAt track (meant h)) where
+module _ {h : Header} {job : List ℕ} {buffers : Lent} (l : Laid h job buffers)
+    {a b c d : ℕ} (ea : a ≡ rowsAt) (eb : b ≡ marksAt track (meant h)) (ec : c ≡ proposalsAt track (meant h)) (ed : d ≡ pointsAt track (meant h)) where
   -- the sections, as they are cut out
   abbrev rows : List ℕ
   rows = take (b - a) (drop a job)
@@ -80,46 +81,10 @@ module _ {h : Header} {job : List ℕ} {buffers : Lent} (l : Laid h job buffers)
   abbrev points : List ℕ
   points = take (length job - d) (drop d job)
 
-  rows-is : rows ≡ section job rowsAt (rowBytes track * h .rows)
-  rows-is = let size : b - a ≡ rowBytes track * h .rows = omega (arith, ea, eb) in ap₂ (λ (n m : ℕ). take n (drop m job)) size ea
-
-  marks-is : marks ≡ section job (marksAt track (meant h)) (h .rows)
-  marks-is = let size : c - b ≡ h .rows = omega (arith, eb, ec) in ap₂ (λ (n m : ℕ). take n (drop m job)) size eb
-
-  proposals-is : proposals ≡ section job (proposalsAt track (meant h)) (8 * h .proposals)
-  proposals-is = let size : d - c ≡ 8 * h .proposals = omega (arith, ec, ed) in ap₂ (λ (n m : ℕ). take n (drop m job)) size ec
-
-  points-is : points ≡ section job (pointsAt track (meant h)) (pointBytes track (meant h))
-  points-is = let size : length job - d ≡ pointBytes track (meant h) = omega (arith, ed, l .long) in ap₂ (λ (n m : ℕ). take n (drop m job)) size ed
-
-  rows-long : length rows ≡ rowBytes track * h .rows
-  rows-long = ap length rows-is ∙ part-length job rowsAt (rowBytes track * h .rows) (omega (arith, l .long))
-
-  pub counted : rowsIn rows ≡ h .rows
-  unfolding rowsIn
-  counted = omega (arith, rows-long)
-
-  proposals-long : length proposals ≡ 8 * h .proposals
-  proposals-long = ap length proposals-is ∙ part-length job (proposalsAt track (meant h)) (8 * h .proposals) (omega (arith, l .long))
-
-  proposals-counted : length proposals / 8 ≡ h .proposals
-  proposals-counted = omega (arith, proposals-long)
-
-  -- they hold the job
-  job-is : jobIn h rows marks proposals points ≡ jobOf track job
-  unfolding jobOf proposalsIn
-  job-is = (λ k. record { ids = h .ids; table = table-is k; marks = marks-is k; proposals = proposals-are k; points = pointsOf track (meant h) (points-is k); outward = asksOutward track (meant h) }) ∙ ap (λ (x : Header). jobBy track (meant x) job) (l .is)
-    where
-      table-is : tableIn rows ≡ jobBy track (meant h) job .table
-      table-is = table-in rows ∙ ap₂ (λ (n : ℕ) (xs : List ℕ). rowsTable track n xs) counted rows-is
-
-      proposals-are : proposalsIn proposals ≡ jobBy track (meant h) job .proposals
-      proposals-are = ap₂ (λ (n : ℕ) (xs : List ℕ). tabulate n (proposalIn xs)) proposals-counted proposals-is
-
   module _ (broken : Broken) (found : verdictOf broken ≡ firstMatch 5 (tableTests (tableIn rows) (h .ids))) {o : Outcome} (told : o ≡ refusal (verdictOf broken))
       {work : List ℕ} (left : work ≡ leftOf broken (written (neighbourList (tableIn rows)) (buffers .work))) where
     list-fits : length (neighbourList (tableIn rows)) ≡ workRoom track (meant h)
-    list-fits = list-length (tableIn rows) ∙ ap (λ (n : ℕ). 4 * n) counted
+    list-fits = list-length (tableIn rows) ∙ ap (λ (n : ℕ). 4 * n) (counted job (l .is) (l .long) ea eb ec ed)
 
     kept : length (written (neighbourList (tableIn rows)) (buffers .work)) ≡ length (buffers .work)
     kept = written-length (neighbourList (tableIn rows)) (buffers .work) (rw (list-fits, l .work-room) (le-refl (workRoom track (meant h))))
@@ -130,7 +95,7 @@ module _ {h : Header} {job : List ℕ} {buffers : Lent} (l : Laid h job buffers)
     pub table-refused : o .code ≢ 0 → result o (lent (buffers .answers) (buffers .finalMarks) (buffers .triangles) work) ≡ fromTable h (jobOf track job) buffers
     unfolding decided refused
     table-refused ne =
-        rw (← job-is)
+        rw (← (job-is job (l .is) (l .long) ea eb ec ed))
         (rw (
           match-front 5 (tableTests (tableIn rows) (h .ids)) (laterTests (tableIn rows) (h .ids) marks (pointsOf track (meant h) points)) (λ z. off (ap (λ (v : Verdict). v .code) found ∙ z)),
           ← found,
@@ -164,21 +129,21 @@ module _ {h : Header} {job : List ℕ} {buffers : Lent} (l : Laid h job buffers)
         few-ids = l .few-ids;
         closed = is-closed;
         ground = record {
-          few = rw counted (l .few);
+          few = rw (counted job (l .is) (l .long) ea eb ec ed) (l .few);
           paired = is-closed .paired;
-          room = rw (counted, work-long) (le-refl (workRoom track (meant h)));
+          room = rw ((counted job (l .is) (l .long) ea eb ec ed), work-long) (le-refl (workRoom track (meant h)));
           at = λ r c lr lc.
               ap (λ (xs : List ℕ). getD xs (4 * r + c) 0) listed
               ∙ written-at (neighbourList (tableIn rows)) (buffers .work) (4 * r + c) (rw (list-length (tableIn rows)) (omega arith))
               ∙ list-at (tableIn rows) r c lr lc;
         };
-        each = ap length marks-is ∙ part-length job (marksAt track (meant h)) (h .rows) (omega (arith, l .long)) ∙ sym counted;
-        points-long = ap length points-is ∙ part-length job (pointsAt track (meant h)) (pointBytes track (meant h)) (omega (arith, l .long));
+        each = ap length (marks-is job (l .is) (l .long) ea eb ec ed) ∙ part-length job (marksAt track (meant h)) (h .rows) (omega (arith, l .long)) ∙ sym (counted job (l .is) (l .long) ea eb ec ed);
+        points-long = ap length (points-is job (l .is) (l .long) ea eb ec ed) ∙ part-length job (pointsAt track (meant h)) (pointBytes track (meant h)) (omega (arith, l .long));
         listed = listed ∙ sym (ap (written (neighbourList (tableIn rows))) listed
             ∙ written-over (neighbourList (tableIn rows)) (neighbourList (tableIn rows)) (buffers .work) (le-refl (length (neighbourList (tableIn rows)))));
-        answer-room = rw proposals-counted (l .answer-room);
-        mark-room = rw counted (l .mark-room);
-        triangle-room = rw counted (l .triangle-room);
+        answer-room = rw (proposals-counted job (l .is) (l .long) ea eb ec ed) (l .answer-room);
+        mark-room = rw (counted job (l .is) (l .long) ea eb ec ed) (l .mark-room);
+        triangle-room = rw (counted job (l .is) (l .long) ea eb ec ed) (l .triangle-room);
       }
 
       pub table-passed : {r : Result} → r ≡ fromMarks h (jobIn h rows marks proposals points) (lent (buffers .answers) (buffers .finalMarks) (buffers .triangles) work)
@@ -190,4 +155,4 @@ module _ {h : Header} {job : List ℕ} {buffers : Lent} (l : Laid h job buffers)
           (buffers .answers) (buffers .finalMarks) (buffers .triangles) work (buffers .work) (sym list-fits) listed
           ∙ ap (λ (v : Verdict). decided (meant h) v (jobIn h rows marks proposals points) buffers)
           (sym (match-append 5 (lit< tt) (tableTests (tableIn rows) (h .ids)) (laterTests (tableIn rows) (h .ids) marks (pointsOf track (meant h) points)) (ap (λ (v : Verdict). v .code) (sym found) ∙ sym same-code ∙ z)))
-          ∙ ap (λ (j : Job). fromTable h j buffers) job-is
+          ∙ ap (λ (j : Job). fromTable h j buffers) (job-is job (l .is) (l .long) ea eb ec ed)

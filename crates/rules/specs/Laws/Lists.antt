@@ -123,6 +123,13 @@ module _ {ℓ} {A : Type ℓ} where
   only-length true x = refl
   only-length false x = refl
 
+-- ---- members by their place
+
+pub among-at : (xs : List ℕ) (k : ℕ) → k < length xs → Among (getD xs k 0) xs
+among-at [] k l = absurd (not-suc-le-zero l)
+among-at (x ∷ xs) zero l = List·Memᴰ·head refl
+among-at (x ∷ xs) (suc k) l = List·Memᴰ·tail (among-at xs k (le-of-suc-le-suc l))
+
 -- ---- picked lists
 
 pub in-pick : (n : ℕ) (p : ℕ → Bool) (k : ℕ) → k < n → p k ≡ true → Among k (pick n p)

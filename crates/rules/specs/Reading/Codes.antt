@@ -14,13 +14,13 @@ use borrow.Author.Tests.{ne-eqb, not-false, lt-ltb, le-leb, lt-leb}
 use Rattle.rules.specs.Below.{found, lowest}
 use Rattle.rules.specs.Table.{Table, tableOf, rising, idsBelow, before, trianglesShared, edgesJoined, verticesJoined}
 use Rattle.rules.specs.Skin.{ringless, clean}
-use Rattle.rules.specs.Points.{Point}
+use Rattle.rules.specs.Points.{Point, onGrid, atOrigin}
 use Rattle.rules.specs.Outward.{offGrid, flat, folded}
 use Rattle.rules.specs.First.{Test, given, Verdict, firstMatch}
 use Rattle.rules.specs.Proposals.{insideIn}
 use Rattle.rules.specs.Job.{Form, Header, headerWord, headerOf, hasPoints, mostIds, mostRows, mostProposals, least, within, withinLimits, rowsAt, marksAt, proposalsAt, wholeLength, laidOut, rowsTable, Job, jobOf, cleanWith, Lent, workRoom, listRoom, shortRooms, roomShort, written, codes, layoutTests, roomTests, badRow, notAfter, tableTests, unlike, markTests, shown, pointTests, sectionTests, jobTests, Result, accepted, refused, verdictOn, run}
 use Rattle.rules.specs.Laws.Job.{job-corners}
-use Rattle.rules.specs.Laws.Truth.{is-true, is-false, not-both, and-both, not-reads, and-reads, or-reads, eqb-reads, ltb-reads, leb-reads, same-or-not}
+use Rattle.rules.specs.Laws.Truth.{is-true, is-false, not-both, and-both, not-reads, and-reads, or-reads, or-no-first, eqb-reads, ltb-reads, leb-reads, same-or-not}
 use Rattle.rules.specs.Laws.Below.{lowest-none, none-any}
 use Rattle.rules.specs.Laws.First.{Reads, FirstOf, conditionAt, first-reads, none-reads, given-reads, given-none, match-parts, match-both, match-below, match-zero, match-none}
 use Rattle.rules.specs.Reading.Rows.{First, lowest-first, Rising, rising-reads, IdsBelow, ids-below-reads, Before, before-reads}
@@ -373,6 +373,13 @@ module _ (f : Form) (bytes : List ℕ) (lent : Lent) where
     unfolding verdictOn jobTests layoutTests
     later-passed = match-parts 1 (zero-lt-suc 0) (layoutTests f bytes) _ (sym run-code ∙ ran) .1
 
+    -- no lent room is short
+    pub accepted-room : RoomShort f (headerOf bytes) lent → ⊥
+    unfolding roomTests
+    accepted-room short =
+        let (n4, _) = match-zero 4 (zero-lt-suc 3) _ _ (match-parts 4 (zero-lt-suc 3) (roomTests f (headerOf bytes) lent) _ later-passed .0) in
+        not-both (room-reads f (headerOf bytes) lent .1 short) (given-none _ n4)
+
     pub sections-passed : firstMatch 5 (sectionTests (jobOf f bytes)) .code ≡ 0
     unfolding roomTests
     sections-passed = match-parts 4 (zero-lt-suc 3) (roomTests f (headerOf bytes) lent) _ later-passed .1
@@ -432,6 +439,13 @@ module _ (f : Form) (bytes : List ℕ) (lent : Lent) where
         let (n14, e15) = match-zero 14 (zero-lt-suc 13) _ _ e14 in
         let (n15, _) = match-zero 15 (zero-lt-suc 14) _ _ e15 in
         (lowest-none (t .rows) (flat t at) n14, lowest-none (t .rows) (folded t at) n15)
+
+    -- where there are points, each is in range
+    pub accepted-grid : (at : ℕ → Point) → jobOf f bytes .points ≡ some at → (v : ℕ) → v < jobOf f bytes .ids → onGrid (at v) ≡ true
+    unfolding pointTests shown offGrid
+    accepted-grid at is v l =
+        let (n13, _) = match-zero 13 (zero-lt-suc 12) _ _ (rw is at points-passed) in
+        not-false (onGrid (at v)) (or-no-first (not (onGrid (at v))) (eqb v 0 && not (atOrigin (at v))) (lowest-none (jobOf f bytes .ids) (offGrid at) n13 v l))
 
     -- the header is within its limits and laid out as it says
     pub accepted-header : WithinLimits f (headerOf bytes) × LaidOut f (headerOf bytes) bytes

@@ -1,5 +1,6 @@
 use native.Mathlib.Nat.{le-refl}
-use Rattle.track.specs.Sections.{counted, table-refused, work-long, ready, table-passed}
+use Rattle.track.specs.Cut.{counted}
+use Rattle.track.specs.Sections.{table-refused, work-long, ready, table-passed}
 use borrow.Author.Needs.{needs}
 use Rattle.track.proofs.run_laid.Statement.{statement}
 use Rattle.track.proofs.run_laid.Tie as tie
@@ -20,7 +21,7 @@ check-requires : tie.Need-check-requires
 check-requires c κs =
     let at-points-at = c .before .before in let at-proposals-at = at-points-at .before in let at-marks-at = at-proposals-at .before in let at-rows-at = at-marks-at .before in
     let start = at-rows-at .before .before .before .before .before .before in
-    let rows-counted = counted (start .pre) (at-rows-at .rows-at .ensures) (at-marks-at .marks-at .ensures) (at-proposals-at .proposals-at .ensures) (at-points-at .points-at .ensures) in
+    let rows-counted = counted (start .args .job .now) (start .pre .is) (start .pre .long) (at-rows-at .rows-at .ensures) (at-marks-at .marks-at .ensures) (at-proposals-at .proposals-at .ensures) (at-points-at .points-at .ensures) in
     (rw rows-counted (start .pre .few), rw (rows-counted, start .pre .work-room) (le-refl _))
 
 returns : tie.Need-returns
