@@ -6,7 +6,8 @@
 --     Forth      the file of a list is read as that list
 --     Back       the file of what a file is read as is that file
 --     Trips      the two round trips, and what each call leaves, over the calls' answers
---     Worked     numbers off the grid and on it, and the file of the empty list
+--     Worked     numbers off the grid and on it, and the file of the empty list; and as computed theorems
+--                Worked.Written  the facet writer: each code, the most facets, the whole file of one facet
 pub mod Silent
 pub mod Writable
 pub mod Readable

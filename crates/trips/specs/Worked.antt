@@ -1,7 +1,9 @@
--- Numbers off the grid and on it, by their bits, and the file of the empty list.
+-- Numbers off the grid and on it, by their bits, and the file of the empty list. Below this module the calls, worked: `Worked.Written` the
+-- facet writer.
+pub mod Written
 use mathlib.Core.Path.{_≡_, refl, ap}
 use mathlib.Core.Bool.{Bool, true, false, not, _&&_}
-use mathlib.Core.List.{List, [], _∷_}
+use mathlib.Core.List.{List, [], _∷_, _++_}
 use Prim.Native.Nat.{ℕ, zero, suc, _<_}
 use native.Mathlib.Nat.{not-suc-le-zero, le-of-suc-le-suc}
 use native.Mathlib.Omega.{arith}
@@ -16,6 +18,20 @@ use Rattle.rules.specs.Stl.{metres, bitsOf, header, facetsOf, fileOf, gridNumbe
 use Rattle.rules.specs.Laws.Truth.{and-first, and-second}
 use Rattle.rules.specs.Laws.Below.{all-each, none-any}
 use Rattle.grid.specs.Named.{named-on}
+
+-- ---- how files are written down
+
+-- `track skin` in ASCII, and 70 zeros
+abbrev pub top : List ℕ
+top = 116 ∷ 114 ∷ 97 ∷ 99 ∷ 107 ∷ 32 ∷ 115 ∷ 107 ∷ 105 ∷ 110 ∷ replicate 70 0
+
+-- the bytes of a count or of a number
+abbrev pub four : ℕ → ℕ → ℕ → ℕ → List ℕ
+four a b c d = a ∷ b ∷ c ∷ d ∷ []
+
+-- units below zero
+abbrev pub minus : ℕ → ℤ
+minus n = negℤ (pos n)
 
 -- ---- off the grid: one computed test over its 2,047 numbers
 
@@ -83,20 +99,20 @@ pub one-read : ReadAs 0x3d80_0000 (pos 1)
 unfolding inRange metres bitsOf div ofInt ofBits toBits
 one-read = named-on 0x3d80_0000 (pos 1) (refl, refl)
 
-pub minus-one-read : ReadAs 0xbd80_0000 (negℤ (pos 1))
+pub minus-one-read : ReadAs 0xbd80_0000 (minus 1)
 unfolding inRange metres bitsOf div ofInt ofBits toBits
-minus-one-read = named-on 0xbd80_0000 (negℤ (pos 1)) (refl, refl)
+minus-one-read = named-on 0xbd80_0000 (minus 1) (refl, refl)
 
 pub most-read : ReadAs 0x427f_c000 (pos 1023)
 unfolding inRange metres bitsOf div ofInt ofBits toBits
 most-read = named-on 0x427f_c000 (pos 1023) (refl, refl)
 
-pub least-read : ReadAs 0xc27f_c000 (negℤ (pos 1023))
+pub least-read : ReadAs 0xc27f_c000 (minus 1023)
 unfolding inRange metres bitsOf div ofInt ofBits toBits
-least-read = named-on 0xc27f_c000 (negℤ (pos 1023)) (refl, refl)
+least-read = named-on 0xc27f_c000 (minus 1023) (refl, refl)
 
 -- ---- the file of the empty list: 84 bytes, the text `track skin` and zeros
 
-pub empty-file : fileOf [] ≡ 116 ∷ 114 ∷ 97 ∷ 99 ∷ 107 ∷ 32 ∷ 115 ∷ 107 ∷ 105 ∷ 110 ∷ replicate 74 0
+pub empty-file : fileOf [] ≡ top ++ four 0 0 0 0
 unfolding header facetsOf fileOf gather
 empty-file = refl
