@@ -7,7 +7,8 @@
 --     Back       the file of what a file is read as is that file
 --     Trips      the two round trips, and what each call leaves, over the calls' answers
 --     Worked     numbers off the grid and on it, and the file of the empty list; and as computed theorems
---                Worked.Written  the facet writer: each code, the most facets, the whole file of one facet
+--                Worked.Written  the facet writer: each code, the whole file of one facet, the most facets
+--                Worked.Read     the reader: each code, numbers off the grid as they are handed back, files that are read
 pub mod Silent
 pub mod Writable
 pub mod Readable

@@ -1,6 +1,7 @@
 -- Numbers off the grid and on it, by their bits, and the file of the empty list. Below this module the calls, worked: `Worked.Written` the
--- facet writer.
+-- facet writer, `Worked.Read` the reader.
 pub mod Written
+pub mod Read
 use mathlib.Core.Path.{_≡_, refl, ap}
 use mathlib.Core.Bool.{Bool, true, false, not, _&&_}
 use mathlib.Core.List.{List, [], _∷_, _++_}
