@@ -9,6 +9,7 @@
 --     Worked     numbers off the grid and on it, and the file of the empty list; and as computed theorems
 --                Worked.Written  the facet writer: each code, the whole file of one facet, the most facets
 --                Worked.Read     the reader: each code, numbers off the grid as they are handed back, files that are read
+--                Worked.Skin     the job's writer: job A's whole file in both orders, empty skins, and the refusals
 pub mod Silent
 pub mod Writable
 pub mod Readable

@@ -1,7 +1,8 @@
--- Numbers off the grid and on it, by their bits, and the file of the empty list. Below this module the calls, worked: `Worked.Written` the
--- facet writer, `Worked.Read` the reader.
+-- Numbers off the grid and on it, by their bits, and the file of the empty list. Below this module the three calls of request (vi), worked:
+-- `Worked.Written` the facet writer, `Worked.Read` the reader, `Worked.Skin` the job's writer.
 pub mod Written
 pub mod Read
+pub mod Skin
 use mathlib.Core.Path.{_≡_, refl, ap}
 use mathlib.Core.Bool.{Bool, true, false, not, _&&_}
 use mathlib.Core.List.{List, [], _∷_, _++_}

@@ -16,7 +16,7 @@ use Rattle.rules.specs.Stl.{mostFacets, metres, bitsOf, header, facetBytes, fac
 use Rattle.rules.specs.Laws.First.{match-here}
 use Rattle.rules.specs.Reading.Points.{InRange, range-reads}
 use Rattle.trips.specs.Writable.{wrote-whole}
-use Rattle.trips.specs.Worked.{top, four, minus}
+use Rattle.trips.specs.Worked.{top, four, minus, empty-file}
 
 -- ---- a call of these units and these lent bytes
 
@@ -81,8 +81,8 @@ pub written-lists :
     × Writes oneFacet (room 136) (oneFacetFile ++ 9 ∷ 9 ∷ [])
     -- no facet: 84 bytes
     × Writes [] (room 85) (top ++ four 0 0 0 0 ++ 9 ∷ [])
-unfolding orElse found lowest given firstMatch inRange written writeTests writeFacets one-facet-file
-written-lists = (refl, refl, refl)
+unfolding orElse found lowest given firstMatch inRange written facetsOf writeTests writeFacets
+written-lists = (rw one-facet-file, rw one-facet-file, rw empty-file)
 
 -- ---- the most facets
 
