@@ -1,15 +1,15 @@
 -- Demand 2 is kept.
 use mathlib.Core.Path.{_≡_, refl, sym, ap, _∙_, subst}
-use mathlib.Core.List.{List, flatten}
+use mathlib.Core.List.{List}
 use Prim.Native.Nat.{ℕ, _+_, _*_, _<_}
 use native.Mathlib.Numerals.{add-one}
 use native.Mathlib.Omega.{arith}
-use lib.ListN.{length, getD, take}
+use lib.ListN.{getD, take}
 use lib.Seq.{take-all, take-at, take-suc}
 use Rattle.rules.specs.Table.{neighbourList}
 use Rattle.rules.specs.Skin.{triangle}
 use Rattle.rules.specs.Proposals.{insideIn, answer, marksAfter, finalMarks, taken}
-use Rattle.rules.specs.Job.{track, headerOf, Job, jobOf, answersOf, standing, finalOf, skinWith, listedOf, Lent, written, Result, accepted, run}
+use Rattle.rules.specs.Job.{track, headerOf, Job, jobOf, answersOf, standing, finalOf, Lent, written, run}
 use Rattle.rules.specs.Laws.Count.{TheOther}
 use Rattle.rules.specs.Laws.Written.{written-at}
 use Rattle.rules.specs.Laws.Proposals.{answer-at, final-more}
@@ -23,7 +23,7 @@ use Rattle.rules.specs.Reading.Listing.{triangle-rises, sides-listed, skin-orde
 use Rattle.manifold.specs.Steps.{after-taken, after-refused}
 use Rattle.track.specs.declared.Outcome.{Outcome}
 use Rattle.track.specs.Outcomes.{result}
-use Rattle.track.specs.Accepted.{job-accepted, job-closed, answers-are, marks-are, triangles-are, work-is, taken-is, triangles-is, place-is}
+use Rattle.track.specs.Accepted.{job-closed, answers-are, marks-are, triangles-are, work-is, taken-is, triangles-is, place-is}
 use Rattle.demands.specs.Demands.{proposalAt, Demand2}
 
 module _ (bytes : List ℕ) (before : Lent) {o : Outcome} {after : Lent} (ran : result o after ≡ run track bytes before) (zero-code : o .code ≡ 0) where

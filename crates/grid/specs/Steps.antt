@@ -1,7 +1,7 @@
 -- What the code's steps rest on.
 use mathlib.Core.Path.{_≡_, refl, sym, ap, _∙_, subst}
-use mathlib.Core.Bool.{Bool, true, false, not, _&&_, _||_, Bool·beq}
-use mathlib.Core.Logic.{_⊎_, inl, inr, ⊎-elim}
+use mathlib.Core.Bool.{Bool, true, false, not, _&&_}
+use mathlib.Core.Logic.{_⊎_, ⊎-elim}
 use Prim.Native.Nat.{ℕ, zero, suc, min, _+_, _-_, _*_, _/_, _^_, _≤_, _<_}
 use native.Mathlib.Nat.{div-lt-iff-lt-mul, min-le-left}
 use native.Mathlib.Omega.{arith}
@@ -11,17 +11,16 @@ use lib.Signed.{mag}
 use mir.Syntax.{w16, w64}
 use mir.Val.{SFits, toZ, ofZ}
 use mir.ValLaws.{toZ-ofZ}
-use lib.Ieee.{Float, nan, inf, fin, binary32, up, down, neg, le, lt, eq, ofBits, toSigned, nanBits, isNan, mul}
+use lib.Ieee.{Float, nan, inf, fin, binary32, up, down, neg, le, lt, eq, ofBits, toSigned, isNan}
 use lib.Ieee.Exact.{HasValue}
 use lib.Ieee.Fits.{down-pos}
-use lib.Ieee.Bits.{nanBits-is}
 use borrow.Author.Tests.{eqb-true, ltb-true, le-leb, lt-ltb, leb-true}
-use Rattle.rules.specs.Laws.Truth.{not-both, or-either, and-first, or-first, is-false}
+use Rattle.rules.specs.Laws.Truth.{not-both, or-either, and-first, or-first}
 use Rattle.rules.specs.Points.{inRange}
-use Rattle.rules.specs.Stl.{metres, bitsOf}
+use Rattle.rules.specs.Stl.{bitsOf}
 use Rattle.grid.specs.Numbers.{read}
 use Rattle.grid.specs.Sweep.{times}
-use Rattle.grid.specs.Exact.{exact, comes-back}
+use Rattle.grid.specs.Exact.{comes-back}
 use Rattle.grid.specs.Named.{Names, named-on, off}
 use Rattle.grid.specs.declared.Number.the-variants.{Units, Off}
 

@@ -1,9 +1,9 @@
 -- What is wrong with a number, a corner and a facet.
 use mathlib.Core.Path.{_≡_, refl, sym, ap, _∙_, subst}
-use mathlib.Core.Bool.{Bool, true, false, not, _&&_, _||_, cond}
+use mathlib.Core.Bool.{Bool, true, false, not, _&&_, cond}
 use mathlib.Core.List.{List}
-use mathlib.Core.Option.{Option, some, none, Option·getD}
-use Prim.Native.Nat.{ℕ, zero, suc, _+_, _*_}
+use mathlib.Core.Option.{Option, some, none}
+use Prim.Native.Nat.{ℕ, zero, suc, _+_}
 use native.Mathlib.Omega.{arith}
 use lib.Dec.{eqb}
 use lib.ListN.{getD}
@@ -11,7 +11,7 @@ use lib.Ieee.{Float, binary32, ofBits}
 use borrow.Author.Tests.{eqb-true, eq-eqb}
 use Rattle.rules.specs.Below.{orElse, found, lowest, any}
 use Rattle.rules.specs.Words.{word}
-use Rattle.rules.specs.Stl.{facetAt, numberAt, blank, bitsOff, unitsOf, bitsAt, faulty, firstOff}
+use Rattle.rules.specs.Stl.{facetAt, numberAt, blank, bitsOff, bitsAt, faulty, firstOff}
 use Rattle.rules.specs.Laws.Truth.{not-both, is-false, same-test, and-first, and-second, and-both}
 use Rattle.rules.specs.Laws.Words.{word-zero}
 use Rattle.rules.specs.Laws.Below.{Lowest, lowest-is, lowest-none, any-here, any-some}

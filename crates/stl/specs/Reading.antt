@@ -3,17 +3,15 @@ use mathlib.Core.Path.{_≡_, refl, sym, ap, _∙_}
 use mathlib.Core.Bool.{Bool, true, false, not, cond}
 use mathlib.Core.List.{List, [], _∷_}
 use mathlib.Core.Option.{Option, some, none}
-use Prim.Native.Nat.{ℕ, _*_, _≤_}
-use native.Mathlib.Omega.{arith}
+use Prim.Native.Nat.{ℕ, _*_}
 use lib.Dec.{eqb, ltb}
 use lib.IntN.{ℤ}
 use lib.ListN.{length}
 use lib.Ieee.{Float}
-use borrow.Author.Tests.{ltb-false}
-use Rattle.rules.specs.Below.{found, lowest}
+use Rattle.rules.specs.Below.{found}
 use Rattle.rules.specs.First.{given, Verdict, firstMatch}
 use Rattle.rules.specs.Job.{written}
-use Rattle.rules.specs.Stl.{countIn, illSized, headed, blank, faulty, firstFault, marked, readTests, unitsIn, Read, handedBack, readFile}
+use Rattle.rules.specs.Stl.{countIn, illSized, headed, faulty, firstFault, marked, readTests, unitsIn, Read, handedBack, readFile}
 use Rattle.rules.specs.Laws.Truth.{not-both}
 use Rattle.rules.specs.Laws.First.{match-here, match-later, match-end}
 use Rattle.rules.specs.Laws.Below.{Lowest, lowest-is}

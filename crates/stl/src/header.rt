@@ -29,12 +29,12 @@ pub(crate) fn is_headed(file: &[u8]) -> bool
     requires { ⌜ 80 ≤ length (now file) ⌝ }
     ensures { λ r. ⌜ r ≡ headed (now (file .entry)) ⌝ }
 {
-    let mut k = 0;
-    while k < 80 {
-        if file[k] != header_byte(k) {
+    let mut at = 0;
+    while at < 80 {
+        if file[at] != header_byte(at) {
             return false;
         }
-        k += 1;
+        at += 1;
     }
     true
 }

@@ -1,19 +1,18 @@
 -- The sections of a job that is laid out, and what the verdict on its table leaves to decide.
-use mathlib.Core.Path.{_≡_, refl, sym, ap, ap₂, _∙_}
+use mathlib.Core.Path.{_≡_, refl, sym, ap, _∙_}
 use mathlib.Core.Logic.{⊎-elim, _≢_}
-use mathlib.Core.Bool.{Bool, false}
+use mathlib.Core.Bool.{false}
 use mathlib.Core.List.{List}
-use Prim.Native.Nat.{ℕ, _+_, _-_, _*_, _/_, _≤_}
+use Prim.Native.Nat.{ℕ, _+_, _-_, _*_, _≤_}
 use native.Mathlib.Nat.{le-refl}
 use native.Mathlib.Omega.{arith}
 use lib.Dec.{leb, lit<, lit≤}
 use lib.ListN.{length, getD, take, drop, replicate, length-replicate}
 use borrow.Author.Tests.{ne-eqb}
-use Rattle.rules.specs.Below.{tabulate}
 use Rattle.rules.specs.First.{Test, Verdict, firstMatch}
 use Rattle.rules.specs.Table.{neighbourList}
 use Rattle.rules.specs.Job as rules
-use Rattle.rules.specs.Job.{track, rowBytes, rowsAt, marksAt, proposalsAt, pointsAt, asksOutward, pointBytes, section, rowsTable, proposalIn, pointsOf, Job, jobBy, jobOf, Lent, workRoom, written, tableTests, Result, accepted, refused}
+use Rattle.rules.specs.Job.{track, rowsAt, marksAt, proposalsAt, pointsAt, pointBytes, pointsOf, Job, jobOf, Lent, workRoom, written, tableTests, Result, accepted, refused}
 use Rattle.rules.specs.Laws.Truth.{same-or-not}
 use Rattle.rules.specs.Laws.First.{match-append, match-front}
 use Rattle.rules.specs.Laws.Lists.{part-length}
@@ -24,9 +23,8 @@ use Rattle.job.specs.declared.Header.{Header}
 use Rattle.job.specs.Reading.{meant}
 use Rattle.table.specs.declared.Broken.{Broken}
 use Rattle.table.specs.declared.Broken.the-variants.{Nothing, Row, Order, Triangle, Edge, Vertex}
-use Rattle.table.specs.Rows.{rowsIn, tableIn, table-in}
+use Rattle.table.specs.Rows.{tableIn}
 use Rattle.table.specs.Closed.{verdictOf, leftOf}
-use Rattle.growth.specs.Answers.{proposalsIn}
 use Rattle.track.specs.declared.Outcome.{Outcome}
 use Rattle.track.specs.Outcomes.{lent, result, refusal}
 use Rattle.track.specs.Cut.{counted, marks-is, points-is, proposals-counted, job-is}

@@ -1,9 +1,9 @@
 -- A job that was run, and what its writer answers, as `rules` has it.
-use mathlib.Core.Path.{_≡_, refl, sym, ap, ap₂, _∙_, subst}
+use mathlib.Core.Path.{_≡_, refl, sym, ap, _∙_, subst}
 use mathlib.Core.Logic.{inl, inr, _≢_}
 use mathlib.Core.Bool.{Bool, true, false, cond}
 use mathlib.Core.Option.{Option, some, none}
-use mathlib.Core.List.{List, [], _∷_, flatten}
+use mathlib.Core.List.{List, [], flatten}
 use Prim.Native.Nat.{ℕ, _+_, _-_, _*_, _≤_, _<_}
 use native.Mathlib.Nat.{le-refl}
 use native.Mathlib.Omega.{arith}
@@ -18,7 +18,7 @@ use Rattle.rules.specs.Skin.{skinAs}
 use Rattle.rules.specs.Points.{Point, pointIn, onGrid}
 use Rattle.rules.specs.Outward.{triangleAs}
 use Rattle.rules.specs.Proposals.{insideIn}
-use Rattle.rules.specs.Job.{track, headerOf, mostIds, mostRows, mostProposals, hasPoints, asksOutward, pointBytes, rowsAt, marksAt, proposalsAt, pointsAt, wholeLength, pointsOf, layoutTests, Job, jobOf, finalOf, listedWith, listedOf, Lent, written, Result, run}
+use Rattle.rules.specs.Job.{track, headerOf, mostIds, mostRows, mostProposals, hasPoints, asksOutward, pointBytes, rowsAt, marksAt, pointsAt, wholeLength, pointsOf, layoutTests, Job, jobOf, finalOf, listedWith, listedOf, Lent, written, run}
 use Rattle.rules.specs.Stl.{mostFacets, fileLength, fileOf, cornersOf, outwardSkin, skinFile, fileTests, unwritten, Exported, exported, writeSkin}
 use Rattle.rules.specs.Laws.First.{match-here, match-later, match-end}
 use Rattle.rules.specs.Laws.Job.{job-ids, job-corners, job-rows}

@@ -1,6 +1,5 @@
 -- The skin in either order, its file, and what listing it again leaves.
 use mathlib.Core.Path.{_≡_, refl, sym, ap, _∙_, subst}
-use mathlib.Core.Logic.{_↔_}
 use mathlib.Core.Bool.{Bool, true}
 use mathlib.Core.Option.{some}
 use mathlib.Core.List.{List, _++_, flatten}
@@ -18,7 +17,7 @@ use Rattle.rules.specs.Job.{written}
 use Rattle.rules.specs.Stl.{header, mostFacets, fileOf, cornersOf}
 use Rattle.rules.specs.Laws.Lists.{Among, among-at, flatten-in}
 use Rattle.rules.specs.Laws.Written.{written-length, written-at, written-over}
-use Rattle.rules.specs.Reading.Skin.{Inside, inside-reads}
+use Rattle.rules.specs.Reading.Skin.{inside-reads}
 use Rattle.rules.specs.Reading.Room.{skin-same-length, skin-listed, skin-words, skin-fits, holds-triangle}
 use Rattle.rules.specs.Reading.Outward.{three-each, listed-ids}
 use Rattle.table.specs.Rows.{tableIn, rowsIn}

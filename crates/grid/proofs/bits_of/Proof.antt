@@ -12,12 +12,6 @@ use Rattle.grid.specs.Steps.{finite-number}
 use borrow.Author.Needs.{needs}
 use Rattle.grid.proofs.bits_of.Statement.{statement}
 use Rattle.grid.proofs.bits_of.Tie as tie
-use Rattle.grid.proofs.bits_of.Reads as reads
-use Rattle.grid.proofs.bits_of.Lts as lts
-use Rattle.grid.proofs.metres_of.Reads as metres-of-reads
-
-metres-of-requires : tie.Need-metres-of-requires
-metres-of-requires c κs = search needs
 
 float-to-bits-result : tie.Need-float-to-bits-result
 float-to-bits-result c =
@@ -29,4 +23,4 @@ unfolding bitsOf
 returns c = rw (c .metres-of .ensures ∙ ap metres (toZ-ofZ w16 (c .before .args .units) (c .before .fits .units)))
 
 pub bits-of-spec : {M : Type 1} → statement M
-bits-of-spec = tie.close (tie.spec metres-of-requires float-to-bits-result returns)
+bits-of-spec = tie.close (tie.spec (λ c κs. search needs) float-to-bits-result returns)

@@ -8,8 +8,6 @@ use Rattle.grid.specs.Steps.{is-nan}
 use borrow.Author.Needs.{needs}
 use Rattle.grid.proofs.float_of.Statement.{statement}
 use Rattle.grid.proofs.float_of.Tie as tie
-use Rattle.grid.proofs.float_of.Reads as reads
-use Rattle.grid.proofs.float_of.Lts as lts
 
 returns : tie.Need-returns
 unfolding div ofBits
@@ -18,8 +16,5 @@ returns c = sym (is-nan (ofBits binary32 (c .before .args .bits)) (sym (nanBits-
 float-from-bits-result : tie.Need-float-from-bits-result
 float-from-bits-result c = subst (λ (b : Bool). T (not b)) (sym (nanBits-above binary32 (c .before .args .bits) ∙ le-ltb _ _ (c .if1 .left))) tt
 
-returns-2 : tie.Need-returns-2
-returns-2 c = search needs
-
 pub float-of-spec : {M : Type 1} → statement M
-float-of-spec = tie.close (tie.spec returns float-from-bits-result returns-2)
+float-of-spec = tie.close (tie.spec returns float-from-bits-result (λ c. search needs))

@@ -1,5 +1,5 @@
 use mathlib.Core.Path.{_≡_, sym, ap, _∙_}
-use mathlib.Core.Bool.{true, false}
+use mathlib.Core.Bool.{true}
 use Prim.Native.Nat.{ℕ}
 use lib.Ieee.{Float, binary32, ofBits, neg, le, mul, toSigned}
 use Rattle.rules.specs.Points.{inRange}
@@ -7,7 +7,6 @@ use Rattle.rules.specs.Stl.{bitsOf}
 use Rattle.grid.specs.Numbers.{read}
 use Rattle.grid.specs.Sweep.{times}
 use Rattle.grid.specs.Steps.{Small, small, reads-units, low-off, high-off, other-off, grid-fits, grid-wide, grid-cast}
-use Rattle.grid.specs.declared.Number.{Number}
 use Rattle.grid.specs.declared.Number.the-variants.{Units, Off}
 use Rattle.grid.proofs.number_of.Statement.{statement}
 use Rattle.grid.proofs.number_of.Tie as tie

@@ -8,46 +8,9 @@ use Rattle.track_stl.specs.Ran.{Ran, outward-told, ground, grid, mark-ea
 use borrow.Author.Needs.{needs}
 use Rattle.track_stl.proofs.put_skin.Statement.{statement}
 use Rattle.track_stl.proofs.put_skin.Tie as tie
-use Rattle.track_stl.proofs.put_skin.Reads as reads
-use Rattle.track_stl.proofs.put_skin.Lts as lts
-use Rattle.job.proofs.Header.asks_outward.Reads as asks-outward-reads
-use Rattle.job.proofs.Header.marks_at.Reads as marks-at-reads
-use Rattle.job.proofs.Header.points_at.Reads as points-at-reads
-use Rattle.job.proofs.Header.rows_at.Reads as rows-at-reads
-use Rattle.track_stl.proofs.put_listed.Reads as put-listed-reads
-
-rows-at-requires : tie.Need-rows-at-requires
-rows-at-requires c κs = search needs
-
-marks-at-requires : tie.Need-marks-at-requires
-marks-at-requires c κs = search needs
-
-points-at-requires : tie.Need-points-at-requires
-points-at-requires c κs = search needs
-
-asks-outward-requires : tie.Need-asks-outward-requires
-asks-outward-requires c κs = search needs
-
-sub-put-listed : tie.Need-sub-put-listed
-sub-put-listed c = search needs
-
-part-put-listed-start : tie.Need-part-put-listed-start
-part-put-listed-start c = search needs
-
-part-put-listed-end : tie.Need-part-put-listed-end
-part-put-listed-end c = search needs
 
 slice-aggregate-put-listed : tie.Need-slice-aggregate-put-listed
 slice-aggregate-put-listed c = let start = c .before .before .before .before .before .before .before .before .before .before .before in sym (length-take-le (start .args .h .rows) (start .args .final-marks .now) (start .pre .0 .mark-room))
-
-sub-put-listed-2 : tie.Need-sub-put-listed-2
-sub-put-listed-2 c = search needs
-
-part-put-listed-start-2 : tie.Need-part-put-listed-start-2
-part-put-listed-start-2 c = search needs
-
-part-put-listed-end-2 : tie.Need-part-put-listed-end-2
-part-put-listed-end-2 c = search needs
 
 put-listed-requires : tie.Need-put-listed-requires
 put-listed-requires c κs =
@@ -66,12 +29,6 @@ put-listed-requires c κs =
       rw (skin-is ran on rows marks points true) (start .pre .2),
     )
 
-same-length : tie.Need-same-length
-same-length c = search needs
-
-same-length-2 : tie.Need-same-length-2
-same-length-2 c = search needs
-
 returns : tie.Need-returns
 returns c =
     let put = c .before .before .before .before in
@@ -84,18 +41,18 @@ pub put-skin-spec : {M : Type 1} → statement M
 put-skin-spec =
     tie.close
     (tie.spec
-    rows-at-requires
-    marks-at-requires
-    points-at-requires
-    asks-outward-requires
-    sub-put-listed
-    part-put-listed-start
-    part-put-listed-end
+    (λ c κs. search needs)
+    (λ c κs. search needs)
+    (λ c κs. search needs)
+    (λ c κs. search needs)
+    (λ c. search needs)
+    (λ c. search needs)
+    (λ c. search needs)
     slice-aggregate-put-listed
-    sub-put-listed-2
-    part-put-listed-start-2
-    part-put-listed-end-2
+    (λ c. search needs)
+    (λ c. search needs)
+    (λ c. search needs)
     put-listed-requires
-    same-length
-    same-length-2
+    (λ c. search needs)
+    (λ c. search needs)
     returns)

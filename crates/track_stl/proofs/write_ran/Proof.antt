@@ -5,17 +5,6 @@ use Rattle.track_stl.specs.Ran.{Ran, outward-few, no-points, short-room,
 use borrow.Author.Needs.{needs}
 use Rattle.track_stl.proofs.write_ran.Statement.{statement}
 use Rattle.track_stl.proofs.write_ran.Tie as tie
-use Rattle.track_stl.proofs.write_ran.Reads as reads
-use Rattle.track_stl.proofs.write_ran.Lts as lts
-use Rattle.job.proofs.Header.has_points.Reads as has-points-reads
-use Rattle.track_stl.proofs.put_skin.Reads as put-skin-reads
-use Rattle.track_stl.proofs.refused.Reads as refused-reads
-
-has-points-requires : tie.Need-has-points-requires
-has-points-requires c κs = search needs
-
-refused-requires : tie.Need-refused-requires
-refused-requires c κs = search needs
 
 returns : tie.Need-returns
 returns c =
@@ -29,9 +18,6 @@ mul-if2 c = let start = c .before .before .before .before .before .before .befor
 add-if2 : tie.Need-add-if2
 add-if2 c = let start = c .before .before .before .before .before .before .before .before in record { fits = omega (arith, start .pre .1, outward-few (start .pre .0)) }
 
-refused-requires-2 : tie.Need-refused-requires-2
-refused-requires-2 c κs = search needs
-
 returns-2 : tie.Need-returns-2
 returns-2 c =
     let tested = c .before .before .before in
@@ -44,12 +30,6 @@ put-skin-requires c κs =
     let start = c .before .before .before .before .before .before .before .before .before .before .before in
     let tested = c .before .before .before .before in
     (start .pre .0, sym (tested .before .has-points .ensures) ∙ not-false (tested .before .has-points .result) (tested .if1 .left), rw (← start .pre .1) (c .before .before .if2 .left))
-
-same-length : tie.Need-same-length
-same-length c = search needs
-
-same-length-2 : tie.Need-same-length-2
-same-length-2 c = search needs
 
 returns-3 : tie.Need-returns-3
 returns-3 c =
@@ -65,14 +45,14 @@ pub write-ran-spec : {M : Type 1} → statement M
 write-ran-spec =
     tie.close
     (tie.spec
-    has-points-requires
-    refused-requires
+    (λ c κs. search needs)
+    (λ c κs. search needs)
     returns
     mul-if2
     add-if2
-    refused-requires-2
+    (λ c κs. search needs)
     returns-2
     put-skin-requires
-    same-length
-    same-length-2
+    (λ c. search needs)
+    (λ c. search needs)
     returns-3)

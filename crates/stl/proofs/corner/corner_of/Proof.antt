@@ -1,4 +1,4 @@
-use mathlib.Core.Path.{_≡_, ap, _∙_}
+use mathlib.Core.Path.{ap, _∙_}
 use mir.Syntax.{w16}
 use mir.ValLaws.{toZ-ofZ}
 use Rattle.rules.specs.Stl.{metres}
@@ -6,18 +6,6 @@ use Rattle.stl.specs.Corners.{corner}
 use borrow.Author.Needs.{needs}
 use Rattle.stl.proofs.corner.corner_of.Statement.{statement}
 use Rattle.stl.proofs.corner.corner_of.Tie as tie
-use Rattle.stl.proofs.corner.corner_of.Reads as reads
-use Rattle.stl.proofs.corner.corner_of.Lts as lts
-use Rattle.grid.proofs.metres_of.Reads as metres-of-reads
-
-metres-of-requires : tie.Need-metres-of-requires
-metres-of-requires c κs = search needs
-
-metres-of-requires-2 : tie.Need-metres-of-requires-2
-metres-of-requires-2 c κs = search needs
-
-metres-of-requires-3 : tie.Need-metres-of-requires-3
-metres-of-requires-3 c κs = search needs
 
 returns : tie.Need-returns
 unfolding corner
@@ -31,4 +19,4 @@ returns c =
 
 pub corner-of-spec : {M : Type 1} → statement M
 corner-of-spec =
-    tie.close (tie.spec metres-of-requires metres-of-requires-2 metres-of-requires-3 returns)
+    tie.close (tie.spec (λ c κs. search needs) (λ c κs. search needs) (λ c κs. search needs) returns)

@@ -6,27 +6,6 @@ use Rattle.stl.specs.Corners.{cornerBytes, corners-put}
 use borrow.Author.Needs.{needs}
 use Rattle.stl.proofs.facet.put_corners.Statement.{statement}
 use Rattle.stl.proofs.facet.put_corners.Tie as tie
-use Rattle.stl.proofs.facet.put_corners.Reads as reads
-use Rattle.stl.proofs.facet.put_corners.Lts as lts
-use Rattle.stl.proofs.corner.put_corner.Reads as put-corner-reads
-
-put-corner-requires : tie.Need-put-corner-requires
-put-corner-requires c κs = search needs
-
-add-put-corner : tie.Need-add-put-corner
-add-put-corner c = search needs
-
-put-corner-requires-2 : tie.Need-put-corner-requires-2
-put-corner-requires-2 c κs = search needs
-
-add-put-corner-2 : tie.Need-add-put-corner-2
-add-put-corner-2 c = search needs
-
-put-corner-requires-3 : tie.Need-put-corner-requires-3
-put-corner-requires-3 c κs = search needs
-
-same-length : tie.Need-same-length
-same-length c = search needs
 
 returns : tie.Need-returns
 returns c =
@@ -46,10 +25,10 @@ pub put-corners-spec : {M : Type 1} → statement M
 put-corners-spec =
     tie.close
     (tie.spec
-    put-corner-requires
-    add-put-corner
-    put-corner-requires-2
-    add-put-corner-2
-    put-corner-requires-3
-    same-length
+    (λ c κs. search needs)
+    (λ c. search needs)
+    (λ c κs. search needs)
+    (λ c. search needs)
+    (λ c κs. search needs)
+    (λ c. search needs)
     returns)

@@ -7,29 +7,6 @@ use Rattle.stl.specs.Corners.{cornersBytes, facet-put}
 use borrow.Author.Needs.{needs}
 use Rattle.stl.proofs.facet.put_facet.Statement.{statement}
 use Rattle.stl.proofs.facet.put_facet.Tie as tie
-use Rattle.stl.proofs.facet.put_facet.Reads as reads
-use Rattle.stl.proofs.facet.put_facet.Lts as lts
-use Rattle.stl.proofs.facet.put_corners.Reads as put-corners-reads
-use Rattle.stl.proofs.facet.put_end.Reads as put-end-reads
-use Rattle.stl.proofs.facet.put_normal.Reads as put-normal-reads
-
-put-normal-requires : tie.Need-put-normal-requires
-put-normal-requires c κs = search needs
-
-add-put-corners : tie.Need-add-put-corners
-add-put-corners c = search needs
-
-put-corners-requires : tie.Need-put-corners-requires
-put-corners-requires c κs = search needs
-
-add-put-end : tie.Need-add-put-end
-add-put-end c = search needs
-
-put-end-requires : tie.Need-put-end-requires
-put-end-requires c κs = search needs
-
-same-length : tie.Need-same-length
-same-length c = search needs
 
 returns : tie.Need-returns
 returns c =
@@ -49,10 +26,10 @@ pub put-facet-spec : {M : Type 1} → statement M
 put-facet-spec =
     tie.close
     (tie.spec
-    put-normal-requires
-    add-put-corners
-    put-corners-requires
-    add-put-end
-    put-end-requires
-    same-length
+    (λ c κs. search needs)
+    (λ c. search needs)
+    (λ c κs. search needs)
+    (λ c. search needs)
+    (λ c κs. search needs)
+    (λ c. search needs)
     returns)

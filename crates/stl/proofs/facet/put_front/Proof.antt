@@ -9,19 +9,6 @@ use Rattle.rules.specs.Laws.Written.{written-run}
 use borrow.Author.Needs.{needs}
 use Rattle.stl.proofs.facet.put_front.Statement.{statement}
 use Rattle.stl.proofs.facet.put_front.Tie as tie
-use Rattle.stl.proofs.facet.put_front.Reads as reads
-use Rattle.stl.proofs.facet.put_front.Lts as lts
-use Rattle.stl.proofs.header.put_header.Reads as put-header-reads
-use Rattle.words.proofs.put_word.Reads as put-word-reads
-
-put-header-requires : tie.Need-put-header-requires
-put-header-requires c κs = search needs
-
-put-word-requires : tie.Need-put-word-requires
-put-word-requires c κs = search needs
-
-same-length : tie.Need-same-length
-same-length c = search needs
 
 returns : tie.Need-returns
 returns c =
@@ -32,4 +19,4 @@ returns c =
     ∙ written-run (bytesOf 4 (start .args .facets)) header (start .args .file .now) 80 (sym header-length) (start .pre)
 
 pub put-front-spec : {M : Type 1} → statement M
-put-front-spec = tie.close (tie.spec put-header-requires put-word-requires same-length returns)
+put-front-spec = tie.close (tie.spec (λ c κs. search needs) (λ c κs. search needs) (λ c. search needs) returns)

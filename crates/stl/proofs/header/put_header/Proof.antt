@@ -7,9 +7,6 @@ use Rattle.rules.specs.Laws.Stl.{header-length}
 use Rattle.rules.specs.Laws.Copied.{Copied, copy-begins, copy-turn, copy-ends}
 use Rattle.stl.proofs.header.put_header.Statement.{statement}
 use Rattle.stl.proofs.header.put_header.Tie as tie
-use Rattle.stl.proofs.header.put_header.Reads as reads
-use Rattle.stl.proofs.header.put_header.Lts as lts
-use Rattle.stl.proofs.header.header_byte.Reads as header-byte-reads
 
 abbrev Inv-loop : tie.InvT-loop
 Inv-loop file₀ k₀ file k = (80 ≤ length file₀) × Copied header file file₀ k
@@ -20,17 +17,8 @@ abbrev μ-loop : tie.MeasureT-loop
 loop-holds : tie.Need-loop-holds Inv-loop μ-loop
 loop-holds c = (c .before .pre, copy-begins header (c .before .args .file .now))
 
-header-byte-requires : tie.Need-header-byte-requires Inv-loop μ-loop
-header-byte-requires c κs = search needs
-
 slice-write-file : tie.Need-slice-write-file Inv-loop μ-loop
 slice-write-file c = let (room, copied) = c .before .before .loop .inv in omega (arith, room, copied .kept)
-
-add-k : tie.Need-add-k Inv-loop μ-loop
-add-k c = search needs
-
-loop-less : tie.Need-loop-less Inv-loop μ-loop
-loop-less c = search needs
 
 loop-again : tie.Need-loop-again Inv-loop μ-loop
 loop-again c =
@@ -50,10 +38,10 @@ put-header-spec =
     Inv-loop
     μ-loop
     loop-holds
-    header-byte-requires
+    (λ c κs. search needs)
     slice-write-file
-    add-k
-    loop-less
+    (λ c. search needs)
+    (λ c. search needs)
     loop-again
     same-length
     returns)

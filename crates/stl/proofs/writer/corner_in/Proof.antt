@@ -8,36 +8,6 @@ use Rattle.stl.specs.Corners.{cornerIn}
 use borrow.Author.Needs.{needs}
 use Rattle.stl.proofs.writer.corner_in.Statement.{statement}
 use Rattle.stl.proofs.writer.corner_in.Tie as tie
-use Rattle.stl.proofs.writer.corner_in.Reads as reads
-use Rattle.stl.proofs.writer.corner_in.Lts as lts
-use Rattle.stl.proofs.corner.corner_of.Reads as corner-of-reads
-
-mul-corner-of : tie.Need-mul-corner-of
-mul-corner-of c = search needs
-
-shared-slice-copy-out-corner-of : tie.Need-shared-slice-copy-out-corner-of
-shared-slice-copy-out-corner-of c = search needs
-
-add-corner-of : tie.Need-add-corner-of
-add-corner-of c = search needs
-
-mul-corner-of-2 : tie.Need-mul-corner-of-2
-mul-corner-of-2 c = search needs
-
-shared-slice-copy-out-corner-of-2 : tie.Need-shared-slice-copy-out-corner-of-2
-shared-slice-copy-out-corner-of-2 c = search needs
-
-add-corner-of-2 : tie.Need-add-corner-of-2
-add-corner-of-2 c = search needs
-
-mul-corner-of-3 : tie.Need-mul-corner-of-3
-mul-corner-of-3 c = search needs
-
-shared-slice-copy-out-corner-of-3 : tie.Need-shared-slice-copy-out-corner-of-3
-shared-slice-copy-out-corner-of-3 c = search needs
-
-corner-of-requires : tie.Need-corner-of-requires
-corner-of-requires c κs = search needs
 
 returns : tie.Need-returns
 unfolding cornerIn
@@ -56,13 +26,13 @@ pub corner-in-spec : {M : Type 1} → statement M
 corner-in-spec =
     tie.close
     (tie.spec
-    mul-corner-of
-    shared-slice-copy-out-corner-of
-    add-corner-of
-    mul-corner-of-2
-    shared-slice-copy-out-corner-of-2
-    add-corner-of-2
-    mul-corner-of-3
-    shared-slice-copy-out-corner-of-3
-    corner-of-requires
+    (λ c. search needs)
+    (λ c. search needs)
+    (λ c. search needs)
+    (λ c. search needs)
+    (λ c. search needs)
+    (λ c. search needs)
+    (λ c. search needs)
+    (λ c. search needs)
+    (λ c κs. search needs)
     returns)

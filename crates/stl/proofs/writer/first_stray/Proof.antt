@@ -1,7 +1,7 @@
 use mathlib.Core.Path.{_≡_, refl, sym, ap, _∙_}
 use mathlib.Core.Bool.{not}
 use mathlib.Core.Option.{none}
-use Prim.Native.Nat.{ℕ, _-_, _≤_}
+use Prim.Native.Nat.{_-_}
 use borrow.Author.Needs.{needs}
 use lib.IntN.{pos}
 use lib.ListN.{length, getD}
@@ -13,9 +13,6 @@ use Rattle.rules.specs.Points.{inRange}
 use Rattle.stl.specs.Writing.{strayIn}
 use Rattle.stl.proofs.writer.first_stray.Statement.{statement}
 use Rattle.stl.proofs.writer.first_stray.Tie as tie
-use Rattle.stl.proofs.writer.first_stray.Reads as reads
-use Rattle.stl.proofs.writer.first_stray.Lts as lts
-use Rattle.stl.proofs.writer.is_in_range.Reads as is-in-range-reads
 
 abbrev Inv-loop : tie.InvT-loop
 Inv-loop units k₀ k = lowest k (strayIn units) ≡ none
@@ -27,15 +24,6 @@ loop-holds : tie.Need-loop-holds Inv-loop μ-loop
 unfolding lowest
 loop-holds c = refl
 
-mul-is-in-range : tie.Need-mul-is-in-range Inv-loop μ-loop
-mul-is-in-range c = search needs
-
-shared-slice-copy-out-is-in-range : tie.Need-shared-slice-copy-out-is-in-range Inv-loop μ-loop
-shared-slice-copy-out-is-in-range c = search needs
-
-is-in-range-requires : tie.Need-is-in-range-requires Inv-loop μ-loop
-is-in-range-requires c κs = search needs
-
 -- what the test says
 tested : (c : tie.After-is-in-range Inv-loop μ-loop) → strayIn (c .before .before .before .before .args .units .now) (c .before .before .before .loop .k) ≡ not (c .is-in-range .result)
 tested c = ap not (sym (c .is-in-range .ensures ∙ ap inRange (toZ-ofZ w16 (getD (c .before .before .before .before .args .units .now) (c .before .before .before .loop .k) (pos 0)) (record { sfits = c .before .is-in-range-arg .given }))))
@@ -45,12 +33,6 @@ returns c =
     let turn = c .before .before .before .before in
     let units = turn .before .args .units .now in
     sym (search-stops (length units) (turn .loop .k) (strayIn units) (turn .loop .inv) (search needs) (tested (c .before) ∙ c .if1 .taken))
-
-add-k : tie.Need-add-k Inv-loop μ-loop
-add-k c = search needs
-
-loop-less : tie.Need-loop-less Inv-loop μ-loop
-loop-less c = search needs
 
 loop-again : tie.Need-loop-again Inv-loop μ-loop
 loop-again c =
@@ -67,11 +49,11 @@ first-stray-spec =
     Inv-loop
     μ-loop
     loop-holds
-    mul-is-in-range
-    shared-slice-copy-out-is-in-range
-    is-in-range-requires
+    (λ c. search needs)
+    (λ c. search needs)
+    (λ c κs. search needs)
     returns
-    add-k
-    loop-less
+    (λ c. search needs)
+    (λ c. search needs)
     loop-again
     returns-2)

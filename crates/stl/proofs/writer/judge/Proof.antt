@@ -15,26 +15,11 @@ returns-2 : tie.Need-returns-2
 unfolding writing facetsOf
 returns-2 c = rw (eq-eqb _ _ (c .before .if1 .left), lt-ltb _ _ (c .if2 .taken))
 
-first-stray-requires : tie.Need-first-stray-requires
-first-stray-requires c κs = search needs
-
-enum-known-k : tie.Need-enum-known-k
-enum-known-k c = search needs
-
 returns-3 : tie.Need-returns-3
 unfolding writing facetsOf strayed
 returns-3 c =
     let at = c .before .before .before in
     rw (eq-eqb _ _ (at .before .before .if1 .left), le-ltb _ _ (at .before .if2 .left), sym (at .first-stray .ensures) ∙ ap placeOf (c .before .k .given .1))
-
-enum-told : tie.Need-enum-told
-enum-told c = search needs
-
-mul-if3 : tie.Need-mul-if3
-mul-if3 c = search needs
-
-add-if3 : tie.Need-add-if3
-add-if3 c = search needs
 
 returns-4 : tie.Need-returns-4
 unfolding writing facetsOf strayed
@@ -49,4 +34,4 @@ returns-5 c =
     rw (eq-eqb _ _ (at .before .before .if1 .left), le-ltb _ _ (at .before .if2 .left), sym (at .first-stray .ensures) ∙ ap placeOf (c .before .enum-told .given .1), le-ltb _ _ (c .if3 .left))
 
 pub judge-spec : {M : Type 1} → statement M
-judge-spec = tie.close (tie.spec returns returns-2 first-stray-requires enum-known-k returns-3 enum-told mul-if3 add-if3 returns-4 returns-5)
+judge-spec = tie.close (tie.spec returns returns-2 (λ c κs. search needs) (λ c. search needs) returns-3 (λ c. search needs) (λ c. search needs) (λ c. search needs) returns-4 returns-5)

@@ -7,10 +7,6 @@ use Rattle.rules.specs.Laws.Stl.{facet-length}
 use Rattle.stl.specs.Filling.{Filled, fill-begins, fill-turn, fill-ends}
 use Rattle.stl.proofs.writer.put_file.Statement.{statement}
 use Rattle.stl.proofs.writer.put_file.Tie as tie
-use Rattle.stl.proofs.writer.put_file.Reads as reads
-use Rattle.stl.proofs.writer.put_file.Lts as lts
-use Rattle.stl.proofs.facet.put_front.Reads as put-front-reads
-use Rattle.stl.proofs.writer.put_facet_of.Reads as put-facet-of-reads
 
 abbrev Inv-loop : tie.InvT-loop
 Inv-loop file₀ units facets f₀ file f = Filled facets (λ k. facetBytes units (9 * k)) (λ k. facet-length units (9 * k)) file₀ f file
@@ -21,9 +17,6 @@ abbrev μ-loop : tie.MeasureT-loop
 cast-put-front : tie.Need-cast-put-front Inv-loop μ-loop
 unfolding facetsOf
 cast-put-front c = record { fits = omega (arith, c .before .before .pre .1) }
-
-put-front-requires : tie.Need-put-front-requires Inv-loop μ-loop
-put-front-requires c κs = search needs
 
 loop-holds : tie.Need-loop-holds Inv-loop μ-loop
 unfolding facetsOf
@@ -39,12 +32,6 @@ put-facet-of-requires c κs =
     let filled = turn .loop .inv in
     let start = turn .before .before .before .before .before .before in
     (omega (arith, filled .kept, filled .room), search needs, omega (arith, start .pre .1), start .pre .2)
-
-add-f : tie.Need-add-f Inv-loop μ-loop
-add-f c = search needs
-
-loop-less : tie.Need-loop-less Inv-loop μ-loop
-loop-less c = search needs
 
 loop-again : tie.Need-loop-again Inv-loop μ-loop
 unfolding facetsOf
@@ -72,11 +59,11 @@ put-file-spec =
     Inv-loop
     μ-loop
     cast-put-front
-    put-front-requires
+    (λ c κs. search needs)
     loop-holds
     put-facet-of-requires
-    add-f
-    loop-less
+    (λ c. search needs)
+    (λ c. search needs)
     loop-again
     same-length
     returns)

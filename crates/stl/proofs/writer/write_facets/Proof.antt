@@ -6,16 +6,6 @@ use Rattle.stl.specs.declared.writer.Writing.{Writing}
 use borrow.Author.Needs.{needs}
 use Rattle.stl.proofs.writer.write_facets.Statement.{statement}
 use Rattle.stl.proofs.writer.write_facets.Tie as tie
-use Rattle.stl.proofs.writer.write_facets.Reads as reads
-use Rattle.stl.proofs.writer.write_facets.Lts as lts
-use Rattle.stl.proofs.writer.judge.Reads as judge-reads
-use Rattle.stl.proofs.writer.put_file.Reads as put-file-reads
-
-judge-requires : tie.Need-judge-requires
-judge-requires c κs = search needs
-
-enum-told : tie.Need-enum-told
-enum-told c = search needs
 
 put-file-requires : tie.Need-put-file-requires
 put-file-requires c κs =
@@ -23,18 +13,6 @@ put-file-requires c κs =
     let start = at .before .before in
     let w = writable (start .args .units .now) (length (start .args .file .now)) (sym (at .judge .ensures) ∙ c .before .enum-told .given .1) in
     (w .roomy, w .few, w .in-range)
-
-enum-told-2 : tie.Need-enum-told-2
-enum-told-2 c = search needs
-
-enum-told-3 : tie.Need-enum-told-3
-enum-told-3 c = search needs
-
-enum-told-4 : tie.Need-enum-told-4
-enum-told-4 c = search needs
-
-same-length : tie.Need-same-length
-same-length c = search needs
 
 returns : tie.Need-returns
 unfolding leftBy
@@ -70,13 +48,13 @@ pub write-facets-spec : {M : Type 1} → statement M
 write-facets-spec =
     tie.close
     (tie.spec
-    judge-requires
-    enum-told
+    (λ c κs. search needs)
+    (λ c. search needs)
     put-file-requires
-    enum-told-2
-    enum-told-3
-    enum-told-4
-    same-length
+    (λ c. search needs)
+    (λ c. search needs)
+    (λ c. search needs)
+    (λ c. search needs)
     returns
     returns-2
     returns-3

@@ -7,13 +7,6 @@ use Rattle.track_stl.specs.Corners.{pointCorner, each-in-range}
 use borrow.Author.Needs.{needs}
 use Rattle.track_stl.proofs.corners.corner_at.Statement.{statement}
 use Rattle.track_stl.proofs.corners.corner_at.Tie as tie
-use Rattle.track_stl.proofs.corners.corner_at.Reads as reads
-use Rattle.track_stl.proofs.corners.corner_at.Lts as lts
-use Rattle.stl.proofs.corner.corner_of.Reads as corner-of-reads
-use Rattle.volume.proofs.point_at.Reads as point-at-reads
-
-point-at-requires : tie.Need-point-at-requires
-point-at-requires c κs = search needs
 
 -- each coordinate of the point that was read is in range
 in-range : (c : tie.After-point-at) → (inRange (c .point-at .result .x) ≡ true) × (inRange (c .point-at .result .y) ≡ true) × (inRange (c .point-at .result .z) ≡ true)
@@ -28,9 +21,6 @@ cast-corner-of-2 c = let on = in-range (c .before .before .before .before) .1 in
 cast-corner-of-3 : tie.Need-cast-corner-of-3
 cast-corner-of-3 c = let on = in-range (c .before .before .before .before .before .before) .2 in rw (grid-wide _ on) (grid-fits _ on)
 
-corner-of-requires : tie.Need-corner-of-requires
-corner-of-requires c κs = search needs
-
 returns : tie.Need-returns
 unfolding pointCorner
 returns c =
@@ -42,9 +32,9 @@ pub corner-at-spec : {M : Type 1} → statement M
 corner-at-spec =
     tie.close
     (tie.spec
-    point-at-requires
+    (λ c κs. search needs)
     cast-corner-of
     cast-corner-of-2
     cast-corner-of-3
-    corner-of-requires
+    (λ c κs. search needs)
     returns)

@@ -6,19 +6,6 @@ use Rattle.track_stl.specs.Corners.{pointCorner, idCorner}
 use borrow.Author.Needs.{needs}
 use Rattle.track_stl.proofs.corners.corner_in.Statement.{statement}
 use Rattle.track_stl.proofs.corners.corner_in.Tie as tie
-use Rattle.track_stl.proofs.corners.corner_in.Reads as reads
-use Rattle.track_stl.proofs.corners.corner_in.Lts as lts
-use Rattle.track_stl.proofs.corners.corner_at.Reads as corner-at-reads
-use Rattle.values.proofs.from_u32.Reads as from-u32-reads
-
-mul-from-u32 : tie.Need-mul-from-u32
-mul-from-u32 c = search needs
-
-shared-slice-read-from-u32 : tie.Need-shared-slice-read-from-u32
-shared-slice-read-from-u32 c = search needs
-
-from-u32-requires : tie.Need-from-u32-requires
-from-u32-requires c κs = search needs
 
 corner-at-requires : tie.Need-corner-at-requires
 corner-at-requires c κs =
@@ -34,4 +21,4 @@ returns c =
 pub corner-in-spec : {M : Type 1} → statement M
 corner-in-spec =
     tie.close
-    (tie.spec mul-from-u32 shared-slice-read-from-u32 from-u32-requires corner-at-requires returns)
+    (tie.spec (λ c. search needs) (λ c. search needs) (λ c κs. search needs) corner-at-requires returns)

@@ -7,46 +7,21 @@ use Rattle.track_stl.specs.Corners.{idCorner, triangleFacet, id-numbers}
 use borrow.Author.Needs.{needs}
 use Rattle.track_stl.proofs.corners.put_triangle.Statement.{statement}
 use Rattle.track_stl.proofs.corners.put_triangle.Tie as tie
-use Rattle.track_stl.proofs.corners.put_triangle.Reads as reads
-use Rattle.track_stl.proofs.corners.put_triangle.Lts as lts
-use Rattle.stl.proofs.facet.put_facet.Reads as put-facet-reads
-use Rattle.track_stl.proofs.corners.corner_in.Reads as corner-in-reads
-
-mul-corner-in : tie.Need-mul-corner-in
-mul-corner-in c = search needs
 
 corner-in-requires : tie.Need-corner-in-requires
 corner-in-requires c κs =
     let start = c .before .before .before in
     (start .pre .0, omega (arith, start .pre .1), λ i l. start .pre .2 i (omega arith))
 
-mul-corner-in-2 : tie.Need-mul-corner-in-2
-mul-corner-in-2 c = search needs
-
-add-corner-in : tie.Need-add-corner-in
-add-corner-in c = search needs
-
 corner-in-requires-2 : tie.Need-corner-in-requires-2
 corner-in-requires-2 c κs =
     let start = c .before .before .before .before in
     (start .pre .0, omega (arith, start .pre .1), λ i l. start .pre .2 i (omega arith))
 
-mul-corner-in-3 : tie.Need-mul-corner-in-3
-mul-corner-in-3 c = search needs
-
-add-corner-in-2 : tie.Need-add-corner-in-2
-add-corner-in-2 c = search needs
-
 corner-in-requires-3 : tie.Need-corner-in-requires-3
 corner-in-requires-3 c κs =
     let start = c .before .before .before .before .before in
     (start .pre .0, omega (arith, start .pre .1), λ i l. start .pre .2 i (omega arith))
-
-mul-put-facet : tie.Need-mul-put-facet
-mul-put-facet c = search needs
-
-add-put-facet : tie.Need-add-put-facet
-add-put-facet c = search needs
 
 put-facet-requires : tie.Need-put-facet-requires
 put-facet-requires c κs =
@@ -60,9 +35,6 @@ put-facet-requires c κs =
       subst Numbers (sym (c .before .corner-in3 .ensures)) (numbers (3 * k + 2) (omega arith)),
     )
 
-same-length : tie.Need-same-length
-same-length c = search needs
-
 returns : tie.Need-returns
 unfolding triangleFacet
 returns c =
@@ -74,16 +46,16 @@ pub put-triangle-spec : {M : Type 1} → statement M
 put-triangle-spec =
     tie.close
     (tie.spec
-    mul-corner-in
+    (λ c. search needs)
     corner-in-requires
-    mul-corner-in-2
-    add-corner-in
+    (λ c. search needs)
+    (λ c. search needs)
     corner-in-requires-2
-    mul-corner-in-3
-    add-corner-in-2
+    (λ c. search needs)
+    (λ c. search needs)
     corner-in-requires-3
-    mul-put-facet
-    add-put-facet
+    (λ c. search needs)
+    (λ c. search needs)
     put-facet-requires
-    same-length
+    (λ c. search needs)
     returns)

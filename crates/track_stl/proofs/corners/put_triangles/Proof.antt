@@ -7,10 +7,6 @@ use Rattle.stl.specs.Filling.{Filled, fill-begins, fill-turn, fill-ends}
 use Rattle.track_stl.specs.Corners.{triangleFacet, triangle-fifty}
 use Rattle.track_stl.proofs.corners.put_triangles.Statement.{statement}
 use Rattle.track_stl.proofs.corners.put_triangles.Tie as tie
-use Rattle.track_stl.proofs.corners.put_triangles.Reads as reads
-use Rattle.track_stl.proofs.corners.put_triangles.Lts as lts
-use Rattle.stl.proofs.facet.put_front.Reads as put-front-reads
-use Rattle.track_stl.proofs.corners.put_triangle.Reads as put-triangle-reads
 
 abbrev Inv-loop : tie.InvT-loop
 Inv-loop points ids triangles count file₀ k₀ file k = Filled count (triangleFacet (pointIn points) triangles) (triangle-fifty (pointIn points) triangles) file₀ k file
@@ -20,9 +16,6 @@ abbrev μ-loop : tie.MeasureT-loop
 
 cast-put-front : tie.Need-cast-put-front Inv-loop μ-loop
 cast-put-front c = record { fits = omega (arith, c .before .before .before .before .pre .3) }
-
-put-front-requires : tie.Need-put-front-requires Inv-loop μ-loop
-put-front-requires c κs = search needs
 
 loop-holds : tie.Need-loop-holds Inv-loop μ-loop
 loop-holds c =
@@ -37,12 +30,6 @@ put-triangle-requires c κs =
     let filled = turn .loop .inv in
     let start = turn .before .before .before .before .before .before .before .before in
     (start .pre .0, omega (arith, start .pre .1), λ i l. start .pre .2 i (omega arith), omega (arith, start .pre .3), omega (arith, filled .kept, filled .room))
-
-add-k : tie.Need-add-k Inv-loop μ-loop
-add-k c = search needs
-
-loop-less : tie.Need-loop-less Inv-loop μ-loop
-loop-less c = search needs
 
 loop-again : tie.Need-loop-again Inv-loop μ-loop
 loop-again c =
@@ -70,11 +57,11 @@ put-triangles-spec =
     Inv-loop
     μ-loop
     cast-put-front
-    put-front-requires
+    (λ c κs. search needs)
     loop-holds
     put-triangle-requires
-    add-k
-    loop-less
+    (λ c. search needs)
+    (λ c. search needs)
     loop-again
     same-length
     returns)
