@@ -8,6 +8,16 @@ pub struct Lent<'a> {
 }
 
 impl<'a> Lent<'a> {
+    /// The same buffers, lent on.
+    pub fn lend(&mut self) -> Lent<'_> {
+        Lent {
+            answers: self.answers,
+            final_marks: self.final_marks,
+            triangles: self.triangles,
+            work: self.work,
+        }
+    }
+
     /// The front of each buffer, of these lengths; nothing if one is too short.
     pub fn front(self, rooms: Rooms) -> Option<Lent<'a>> {
         Some(Lent {

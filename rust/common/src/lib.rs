@@ -1,11 +1,12 @@
 //! What the engines and the tests share: the numbers and small tables of
-//! document 01, the buffers that a caller lends, and what a run returns.
+//! document 01, the buffers that a caller lends, and what a call returns.
 
 mod corners;
 mod counts;
 mod lent;
 mod order;
 mod outcome;
+pub mod stl;
 
 pub use corners::{EDGES, TRIANGLES};
 pub use counts::{

@@ -1,7 +1,8 @@
 //! Track jobs: their bytes, their text form, and generated ones for tests and
-//! benchmarks.
+//! benchmarks; and lists of facets.
 
 pub mod cases;
+pub mod facets;
 mod geometry;
 pub mod growth;
 mod job;

@@ -41,10 +41,19 @@ impl Random {
         (!from.is_empty()).then(|| self.pick(from))
     }
 
+    /// Bytes with anything in them.
+    pub fn bytes(&mut self, room: usize) -> Vec<u8> {
+        (0..room).map(|_| self.bits() as u8).collect()
+    }
+
+    /// Numbers with anything in them, also what is off the grid.
+    pub fn numbers(&mut self, room: usize) -> Vec<i16> {
+        (0..room).map(|_| self.bits() as i16).collect()
+    }
+
     /// Buffers with anything in them.
     pub fn buffers(&mut self, rooms: Rooms) -> Buffers {
-        let mut bytes = |room| (0..room).map(|_| self.bits() as u8).collect();
-        let (answers, final_marks) = (bytes(rooms.answers), bytes(rooms.final_marks));
+        let (answers, final_marks) = (self.bytes(rooms.answers), self.bytes(rooms.final_marks));
         let mut words = |room| (0..room).map(|_| self.bits() as u32).collect();
         Buffers {
             answers,

@@ -7,6 +7,7 @@ mod listing;
 mod points;
 mod skin;
 mod stages;
+pub mod stl;
 mod table;
 
 pub use listing::listing;
@@ -15,7 +16,7 @@ pub use stages::Stages;
 use common::{Counts, Lent, Order, Outcome};
 use points::Sides;
 use stages::{Stage, Stopwatch, Unwatched, Watch};
-use table::Table;
+use table::{Corners, Row, Table};
 
 /// A job code other than 0, and its place.
 #[derive(Clone, Copy, Debug, PartialEq, Eq)]
@@ -52,17 +53,44 @@ pub fn run_timed(job: &[u8], lent: Lent, stages: &mut Stages) -> Outcome {
 }
 
 fn run_watched<W: Watch>(job: &[u8], lent: Lent, watch: &mut W) -> Outcome {
-    let counts = match header::read_counts(job) {
-        Ok(counts) => counts,
-        Err(code) => return Refusal::new(code, 0).into(),
-    };
-    let Some(mut lent) = lent.front(counts.rooms()) else {
-        return Refusal::new(4, 0).into();
-    };
-    run_laid_out(&counts, job, &mut lent, watch).unwrap_or_else(|refusal| {
-        lent.work.fill(0);
-        refusal.into()
-    })
+    match Ran::of(job, lent, watch) {
+        Ok(ran) => ran.outcome,
+        Err(refusal) => refusal.into(),
+    }
+}
+
+/// An accepted run, with what it found in the job.
+struct Ran<'a> {
+    outcome: Outcome,
+    counts: Counts,
+    /// The front that the job needs of each.
+    lent: Lent<'a>,
+    found: Found,
+}
+
+struct Found {
+    rows: Vec<Row>,
+    corners: Corners,
+    sides: Option<Sides>,
+}
+
+impl<'a> Ran<'a> {
+    fn of<W: Watch>(job: &[u8], lent: Lent<'a>, watch: &mut W) -> Result<Ran<'a>, Refusal> {
+        let counts = header::read_counts(job).map_err(|code| Refusal::new(code, 0))?;
+        let mut lent = lent.front(counts.rooms()).ok_or(Refusal::new(4, 0))?;
+        match run_laid_out(&counts, job, &mut lent, watch) {
+            Ok((outcome, found)) => Ok(Ran {
+                outcome,
+                counts,
+                lent,
+                found,
+            }),
+            Err(refusal) => {
+                lent.work.fill(0);
+                Err(refusal)
+            }
+        }
+    }
 }
 
 /// Codes 5 to 15, then the run. Writes nothing but `work` before the last
@@ -72,7 +100,7 @@ fn run_laid_out<W: Watch>(
     job: &[u8],
     lent: &mut Lent,
     watch: &mut W,
-) -> Result<Outcome, Refusal> {
+) -> Result<(Outcome, Found), Refusal> {
     let (neighbours, _) = lent.work.as_chunks_mut();
     let rows = table::read_rows(counts, job)?;
     watch.lap(Stage::HeaderAndRows);
@@ -80,7 +108,7 @@ fn run_laid_out<W: Watch>(
     watch.lap(Stage::Neighbours);
     table::check_edges(&rows, neighbours)?;
     watch.lap(Stage::Edges);
-    let corners = table::Corners::group(counts.ids, &rows);
+    let corners = Corners::group(counts.ids, &rows);
     table::check_vertices(&rows, neighbours, &corners)?;
     watch.lap(Stage::Vertices);
 
@@ -105,13 +133,15 @@ fn run_laid_out<W: Watch>(
     let taken = growth::run_proposals(&table, marks, proposals, lent.answers);
     watch.lap(Stage::Proposals);
     let outward = counts.points == Some(Order::Outward);
-    let listed = match sides.filter(|_| outward) {
-        Some(sides) => {
-            let exchanged = |row, left_out| sides.looks_inward(&table, row, left_out);
-            skin::list(&table, marks, exchanged, lent.triangles)
-        }
+    let listed = match sides.as_ref().filter(|_| outward) {
+        Some(sides) => skin::list_outward(&table, marks, sides, lent.triangles),
         None => skin::list(&table, marks, |_, _| false, lent.triangles),
     };
     watch.lap(Stage::List);
-    Ok(Outcome::done(taken, listed))
+    let found = Found {
+        rows,
+        corners,
+        sides,
+    };
+    Ok((Outcome::done(taken, listed), found))
 }

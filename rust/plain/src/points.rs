@@ -79,13 +79,18 @@ fn corner_back(table: &Table, row: usize, back: usize) -> usize {
     is_back[1] + 2 * is_back[2] + 3 * is_back[3]
 }
 
-/// Code 13.
-fn read_points(bytes: &[u8]) -> Result<Vec<Point>, Refusal> {
+/// The points as they stand in a job.
+pub(crate) fn in_units(bytes: &[u8]) -> impl ExactSizeIterator<Item = [i16; 3]> + '_ {
     let (coordinates, _) = bytes.as_chunks::<COORDINATE_BYTES>();
     let (points, _) = coordinates.as_chunks::<3>();
+    points.iter().map(|point| point.map(i16::from_le_bytes))
+}
+
+/// Code 13.
+fn read_points(bytes: &[u8]) -> Result<Vec<Point>, Refusal> {
+    let points = in_units(bytes);
     let mut read = Vec::with_capacity(points.len());
     for point in points {
-        let point = point.map(i16::from_le_bytes);
         let on_grid = point.iter().all(|coordinate| GRID.contains(coordinate));
         if !on_grid || (read.is_empty() && point != [0; 3]) {
             return Err(Refusal::new(13, read.len()));

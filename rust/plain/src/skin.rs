@@ -1,5 +1,6 @@
 //! Marks, the ring test and the list of the skin: codes 10 to 12.
 
+use crate::points::Sides;
 use crate::table::Table;
 use crate::Refusal;
 use common::TRIANGLES;
@@ -135,6 +136,17 @@ impl Ring {
         }
         length
     }
+}
+
+/// As `list`, each triangle outward.
+pub(crate) fn list_outward(
+    table: &Table,
+    marks: &[u8],
+    sides: &Sides,
+    triangles: &mut [u32],
+) -> u32 {
+    let exchanged = |row, left_out| sides.looks_inward(table, row, left_out);
+    list(table, marks, exchanged, triangles)
 }
 
 /// Writes the skin to the front of `triangles` and returns how many there are.

@@ -3,6 +3,7 @@
 //! the numbers and types of `common` it shares no code with the other engines.
 
 mod points;
+pub mod stl;
 
 use common::{
     Lent, Outcome, Rooms, EDGES, HEADER_BYTES, IDS, MARK_BYTES, POINT_BYTES, PROPOSALS,
@@ -27,17 +28,14 @@ pub fn run(job: &[u8], lent: Lent) -> Outcome {
         triangles,
         work,
     } = lent;
-    let [marks_at, proposals_at, points_at] = places(n, p);
-    let rows: Vec<Row> = (0..n)
-        .map(|r| [0, 4, 8, 12].map(|corner| number(job, HEADER_BYTES + ROW_BYTES * r + corner)))
-        .collect();
+    let [marks_at, proposals_at, _] = places(n, p);
+    let rows = rows_of(job);
     let marks = &job[marks_at..proposals_at];
     let proposals = (0..p).map(|i| {
         let at = proposals_at + PROPOSAL_BYTES * i;
         [number(job, at), number(job, at + 4)]
     });
-
-    let points = (word_7 == 1 || word_7 == 3).then(|| Points::read(&job[points_at..]));
+    let points = points_of(job);
 
     let refused = refused_by_table(v, &rows, marks).or_else(|| points.as_ref()?.refused(&rows));
     if let Some((code, place)) = refused {
@@ -69,6 +67,19 @@ pub fn run(job: &[u8], lent: Lent) -> Outcome {
         triangles[3 * i..3 * i + 3].copy_from_slice(&listed);
     }
     Outcome::done(taken, skin.len() as u32)
+}
+
+/// The rows of a job that is laid out.
+fn rows_of(job: &[u8]) -> Vec<Row> {
+    let row = |r| [0, 4, 8, 12].map(|corner| number(job, HEADER_BYTES + ROW_BYTES * r + corner));
+    (0..number(job, 4) as usize).map(row).collect()
+}
+
+/// The points of a job that is laid out, if it has points.
+fn points_of(job: &[u8]) -> Option<Points> {
+    let [n, p, word_7] = [4, 8, 28].map(|at| number(job, at) as usize);
+    let [_, _, points_at] = places(n, p);
+    (word_7 == 1 || word_7 == 3).then(|| Points::read(&job[points_at..]))
 }
 
 /// The word that begins at a byte.

@@ -20,6 +20,10 @@ impl Points {
         Points((0..bytes.len() / POINT_BYTES).map(point).collect())
     }
 
+    pub fn of(&self, id: u32) -> [i128; 3] {
+        self.0[id as usize]
+    }
+
     /// Codes 13 to 15 with their places, for a closed table.
     pub fn refused(&self, rows: &[Row]) -> Option<(u32, usize)> {
         let far = (0..self.0.len()).find(|&id| self.far(id));
@@ -80,7 +84,7 @@ impl Points {
     /// (b - a) x (c - a) . (d - a)
     fn product(&self, [a, b, c]: [u32; 3], d: u32) -> i128 {
         let from_a = |id: u32| {
-            let [point, a] = [id, a].map(|id| self.0[id as usize]);
+            let [point, a] = [id, a].map(|id| self.of(id));
             [point[0] - a[0], point[1] - a[1], point[2] - a[2]]
         };
         let ([bx, by, bz], [cx, cy, cz]) = (from_a(b), from_a(c));
