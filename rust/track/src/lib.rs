@@ -1,6 +1,8 @@
-//! The proved engine for track jobs, called from Rust.
+//! The proved engine for track jobs, called from Rust: [`run`] runs a job,
+//! [`write_skin`] writes its skin as STL, too, and [`write_facets`] and
+//! [`read_file`] write and read such files.
 //!
-//! A caller lends four buffers, which for a job of N rows and P proposals must
+//! To run a job a caller lends four buffers, which for a job of N rows and P proposals must
 //! be at least this long ([`Rooms::exact`]):
 //!
 //! | buffer | length | what code 0 leaves at its front |
@@ -67,7 +69,8 @@
 #[cfg_attr(not(linked), path = "emulated.rs")]
 mod engine;
 
-pub use common::{Buffers, Lent, Outcome, Rooms, MOST_PROPOSALS, MOST_ROWS};
+use common::stl::{Read, Wrote};
+pub use common::{stl, Buffers, Lent, Outcome, Rooms, MOST_PROPOSALS, MOST_ROWS};
 
 /// Whether the engine runs under an emulator, so that its times say nothing.
 pub const EMULATED: bool = cfg!(not(linked));
@@ -75,7 +78,115 @@ pub const EMULATED: bool = cfg!(not(linked));
 /// Runs a job. Any buffer may be empty. The engine takes no heap, and of stack
 /// at most what `include/track.h` states (`TRACK_STACK`).
 pub fn run(job: &[u8], lent: Lent) -> Outcome {
-    let [code, place, taken, triangles] = engine::run(job, lent);
+    outcome(engine::run(job, lent))
+}
+
+/// Writes a list of units, nine for each facet, as a binary STL file to the front
+/// of `file`: [`stl::file_len`] bytes. A refusal leaves `file` as it was:
+///
+/// | code | given when | place |
+/// |---|---|---|
+/// | 1 | the list is not of whole facets, or of over 4,096 | 0 |
+/// | 2 | a number is not from -1023 to 1023 | the index of the first |
+/// | 3 | `file` is too short | 0 |
+pub fn write_facets(units: &[i16], file: &mut [u8]) -> Wrote {
+    let [code, place] = engine::stl_write(units, file);
+    Wrote { code, place }
+}
+
+/// Reads a file that [`write_facets`] or [`write_skin`] has written, or one with
+/// the same bytes, to the front of `units`: nine for each facet. A refusal leaves
+/// `units` as they were:
+///
+/// | code | given when | place |
+/// |---|---|---|
+/// | 1 | under 84 bytes, over 4,096 facets, or a length that is not theirs | 0 |
+/// | 2 | another header | 0 |
+/// | 3 | `units` are too short | 0 |
+/// | 4 | a normal or a u16 that is not zero | the facet |
+/// | 5 | a number off the grid, which is handed back as its bits | the facet |
+///
+/// Of 4 and 5 the first facet at fault decides; in one facet 4 comes first, and
+/// then the first number.
+///
+/// ```
+/// use track::stl::{file_len, Read, Wrote};
+///
+/// // One facet. Units are sixteenths of a metre.
+/// let units = [0, 0, 0, 16, 0, 0, 0, -1023, 8];
+/// let mut file = [9; file_len(1) + 1];
+/// assert_eq!(track::write_facets(&units, &mut file), Wrote { code: 0, place: 0 });
+/// assert_eq!(file[..10], *b"track skin");
+/// assert_eq!(file[80..84], [1, 0, 0, 0]);
+/// assert_eq!(file[108..112], 1f32.to_le_bytes());
+/// assert_eq!(file[124..128], (-63.9375f32).to_le_bytes());
+/// assert_eq!(file[134], 9);
+///
+/// let file = &mut file[..134];
+/// let mut back = [9; 10];
+/// let read = Read { code: 0, place: 0, facets: 1, bits: 0 };
+/// assert_eq!(track::read_file(file, &mut back), read);
+/// assert_eq!(back[..9], units);
+/// assert_eq!(back[9], 9);
+///
+/// // Half a unit is between two points of the grid.
+/// file[108..112].copy_from_slice(&(1f32 / 32.0).to_le_bytes());
+/// let read = track::read_file(file, &mut back);
+/// assert_eq!((read.code, read.place, read.facets), (5, 0, 0));
+/// assert_eq!(f32::from_bits(read.bits), 1.0 / 32.0);
+/// assert_eq!(back[..9], units);
+/// ```
+pub fn read_file(file: &[u8], units: &mut [i16]) -> Read {
+    let [code, place, facets, bits] = engine::stl_read(file, units);
+    Read {
+        code,
+        place,
+        facets,
+        bits,
+    }
+}
+
+/// Runs a job as [`run`] does, and writes its skin as a binary STL file to the
+/// front of `file`: [`stl::file_len`] bytes for the triangles of the outcome, in
+/// the order of the skin list. Its facets are outward, also where word 7 is 3 and
+/// the ids in `triangles` rise. The four buffers are left as [`run`] leaves them,
+/// with code 20 and 21, too, where the job was run and the file is left as it was:
+///
+/// | code | given when |
+/// |---|---|
+/// | 1 to 15 | the job is refused |
+/// | 20 | it has no points |
+/// | 21 | `file` is too short |
+///
+/// ```
+/// use track::{stl, Buffers, Outcome, Rooms};
+///
+/// let folder = concat!(env!("CARGO_MANIFEST_DIR"), "/../../jobs/");
+/// let job = std::fs::read(format!("{folder}outward.job"))?;
+/// let mut lent = Buffers::zeros(Rooms::exact(5, 7));
+/// let mut file = vec![9; stl::file_len(4)];
+/// let outcome = track::write_skin(&job, lent.lend(), &mut file);
+/// assert_eq!(outcome, Outcome { code: 0, place: 0, taken: 3, triangles: 4 });
+///
+/// // The first triangle is 2 4 3.
+/// assert_eq!(lent.triangles[..3], [2, 4, 3]);
+/// let mut units = [0; 9 * 4];
+/// assert_eq!(track::read_file(&file, &mut units).facets, 4);
+/// let [two, four, three] = [[16, -16, -16], [-16, -16, 16], [-16, 16, -16]];
+/// assert_eq!(units[..9], *[two, four, three].as_flattened());
+///
+/// // Without points.
+/// let job = std::fs::read(format!("{folder}a.job"))?;
+/// let outcome = track::write_skin(&job, lent.lend(), &mut file);
+/// assert_eq!(outcome, Outcome { code: 20, place: 0, taken: 0, triangles: 0 });
+/// assert_eq!(lent.triangles[..3], [2, 3, 4]);
+/// # Ok::<(), std::io::Error>(())
+/// ```
+pub fn write_skin(job: &[u8], lent: Lent, file: &mut [u8]) -> Outcome {
+    outcome(engine::stl_run(job, lent, file))
+}
+
+fn outcome([code, place, taken, triangles]: [u32; 4]) -> Outcome {
     Outcome {
         code,
         place,
