@@ -1,6 +1,10 @@
 //! Runs the proved engine and `plain` on the same job and compares the outcome
 //! and every byte and word of every lent buffer. A job that says it has points
 //! is run as it asks for each order, and its outward list is looked at by itself.
+//! `stl` does the same for the STL calls, and `mesh` looks at a file by itself.
+
+pub mod mesh;
+pub mod stl;
 
 use common::{Buffers, Outcome};
 use jobs::{outward, rings, Job};
