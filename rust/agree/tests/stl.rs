@@ -337,7 +337,9 @@ fn numbers_on_and_off_the_grid() {
 #[test]
 #[ignore = "takes many minutes"]
 fn every_bit_pattern() {
-    assert!(!track::EMULATED, "not under an emulator");
+    if track::EMULATED {
+        panic!("it is not for an emulator");
+    }
     let threads = thread::available_parallelism().map_or(1, |threads| threads.get()) as u64;
     let part = move |i: u64| (i << 32) / threads..((i + 1) << 32) / threads;
     let each = |i: u64| thread::spawn(move || on_grid_among(part(i)));

@@ -4,6 +4,7 @@
 mod clean;
 mod early;
 mod points;
+mod stl;
 
 use bench::{micros, Timed};
 use common::{MOST_PROPOSALS, MOST_ROWS};
@@ -73,6 +74,7 @@ fn main() {
     clean::print();
     early::print();
     points::print();
+    stl::print();
 }
 
 fn start(job: &Job) -> &'static str {

@@ -34,7 +34,7 @@ pub(crate) fn print() {
 
 /// Three jobs for each family: from empty marks without proposals, and from
 /// grown ones without proposals and with as many as a job may have.
-fn jobs_to_time(random: &mut Random) -> Vec<(&'static str, Job)> {
+pub(crate) fn jobs_to_time(random: &mut Random) -> Vec<(&'static str, Job)> {
     let mut jobs = Vec::new();
     for (name, placed) in placed::each_family(MOST_ROWS, random) {
         // Splits of a small tetrahedron come to few rows.

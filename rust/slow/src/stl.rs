@@ -9,7 +9,7 @@ use std::sync::LazyLock;
 
 /// The facet writer.
 pub fn write_facets(units: &[i16], file: &mut [u8]) -> Wrote {
-    if units.len() % 9 != 0 || units.len() / 9 > MOST_FACETS {
+    if !units.len().is_multiple_of(9) || units.len() / 9 > MOST_FACETS {
         return Wrote::refused(1, 0);
     }
     if let Some(at) = units.iter().position(|unit| !BITS.contains_key(unit)) {
