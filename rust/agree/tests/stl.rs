@@ -6,7 +6,7 @@ use agree::mesh::Mesh;
 use agree::stl::{read_file, write_facets, write_skin, Skin};
 use agree::{setting, with_stack};
 use common::stl::{file_len, Read, Wrote, CORNERS_AT, FACET_BYTES, FACET_NUMBERS, MOST_FACETS};
-use common::{Outcome, Rooms, MOST_PROPOSALS, MOST_ROWS};
+use common::{Outcome, Rooms, MOST_PROPOSALS, MOST_ROWS, WORD_BYTES};
 use jobs::facets::{self, FileCase, Known, ListCase};
 use jobs::{cases, growth, outward, placed, Job, Random};
 use std::fs;
@@ -286,15 +286,11 @@ impl OneNumber {
         }
     }
 
-    /// The bytes of number k of the facet.
-    fn bytes(k: usize) -> Range<usize> {
-        let at = file_len(0) + CORNERS_AT + 4 * k;
-        at..at + 4
-    }
-
+    /// These bits as number k of the facet.
     fn put(&mut self, k: usize, bits: u32) -> &[u8] {
+        let at = file_len(0) + CORNERS_AT + WORD_BYTES * k;
         self.file.clone_from(&self.sound);
-        self.file[OneNumber::bytes(k)].copy_from_slice(&bits.to_le_bytes());
+        self.file[at..at + WORD_BYTES].copy_from_slice(&bits.to_le_bytes());
         &self.file
     }
 }
@@ -356,16 +352,14 @@ fn every_bit_pattern() {
 
 /// How many patterns there are, and how many of them are numbers of the grid.
 fn on_grid_among(patterns: Range<u64>) -> (u64, u64) {
-    let mut file = OneNumber::new().file;
+    let mut one = OneNumber::new();
     let (mut all, mut on) = (0, 0);
     for pattern in patterns {
         let (bits, k) = (pattern as u32, (pattern % 9) as usize);
-        let at = OneNumber::bytes(k);
-        let before: [u8; 4] = file[at.clone()].try_into().expect("four bytes");
-        file[at.clone()].copy_from_slice(&bits.to_le_bytes());
+        let file = one.put(k, bits);
         let [mut by_track, mut by_plain] = [[i16::MIN; 9]; 2];
-        let track = track::read_file(&file, &mut by_track);
-        let plain = plain::stl::read_file(&file, &mut by_plain);
+        let track = track::read_file(file, &mut by_track);
+        let plain = plain::stl::read_file(file, &mut by_plain);
         assert_eq!(
             (track, by_track),
             (plain, by_plain),
@@ -376,7 +370,6 @@ fn on_grid_among(patterns: Range<u64>) -> (u64, u64) {
             _ => Read::off_grid(0, bits),
         };
         assert_eq!(track, expected);
-        file[at].copy_from_slice(&before);
         all += 1;
         on += u64::from(track.code == 0);
     }
