@@ -1,19 +1,14 @@
-// The run for C and Rust.
+// The run and binary STL, for C and Rust.
+mod files;
+mod told;
+
+use told::tell_run;
 use track::run;
 ghost use mathlib.Core.Path.{_≡_};
-ghost use Prim.Native.Nat.{_<_};
 ghost use lib.Seq.{sets};
 ghost use Rattle.rules.specs.Job.{track, run};
 ghost use Rattle.track.specs.Outcomes.{lent};
 ghost use Rattle.track_c.specs.Told.{told};
-
-// A number by value: one that is cast where it is read would ask that it fits.
-fn narrow(x: usize) -> u32
-    requires { ⌜ x < 4294967296 ⌝ }
-    ensures { λ r. ⌜ r ≡ x ⌝ }
-{
-    x as u32
-}
 
 // Runs a job. `outcome` gets code, place, taken and triangles.
 #[no_mangle]
@@ -29,9 +24,5 @@ pub extern "C" fn track_run(
         × (lent (now (answers .exit)) (now («final_marks» .exit)) (now (triangles .exit)) (now (work .exit))
         ≡ run track (now (job .entry)) (lent (now (answers .entry)) (now («final_marks» .entry)) (now (triangles .entry)) (now (work .entry))) .left) ⌝ }
 {
-    let r = run(job, answers, final_marks, triangles, work);
-    outcome[0] = narrow(r.code);
-    outcome[1] = narrow(r.place);
-    outcome[2] = narrow(r.taken);
-    outcome[3] = narrow(r.triangles);
+    tell_run(run(job, answers, final_marks, triangles, work), outcome);
 }
