@@ -6,6 +6,8 @@
 --     Room      how long the lines are
 --     Listed    what a run gives, and the listing of it
 --     Long      inputs that are longer than any job
+--     Facets    a list of units as text, nine to a line
+--     Units     laws of a number's text, and of a list's
 --     Worked    document 01's listing of A, and that of a refused job
 pub mod Listing
 pub mod Decimal
@@ -14,4 +16,6 @@ pub mod Lines
 pub mod Room
 pub mod Listed
 pub mod Long
+pub mod Facets
+pub mod Units
 pub mod Worked

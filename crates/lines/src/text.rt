@@ -5,7 +5,7 @@ ghost use lib.ListN.{length};
 ghost use Rattle.lines.specs.Listing.{decimal, spaced, line};
 ghost use Rattle.lines.specs.Put.{Put};
 
-fn put_byte(byte: u8, out: &mut [u8], at: usize) -> usize
+pub(crate) fn put_byte(byte: u8, out: &mut [u8], at: usize) -> usize
     requires { ⌜ at < length (now out) ⌝ }
     ensures { λ r. ⌜ Put (byte ∷ []) (now (out .entry)) at (now (out .exit)) r ⌝ }
 {
@@ -26,7 +26,7 @@ fn put_word(word: &[u8], out: &mut [u8], at: usize) -> usize
     next
 }
 
-fn put_number(n: usize, out: &mut [u8], at: usize) -> usize
+pub(crate) fn put_number(n: usize, out: &mut [u8], at: usize) -> usize
     requires { ⌜ at + length (decimal n) ≤ length (now out) ⌝ }
     ensures { λ r. ⌜ Put (decimal n) (now (out .entry)) at (now (out .exit)) r ⌝ }
 {
