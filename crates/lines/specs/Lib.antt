@@ -8,7 +8,7 @@
 --     Long      inputs that are longer than any job
 --     Facets    a list of units as text, nine to a line
 --     Units     laws of a number's text, and of a list's
---     Worked    document 01's listing of A, and that of a refused job
+--     Worked    document 01's listing of A, that of a refused job, and the lines of two facets
 pub mod Listing
 pub mod Decimal
 pub mod Put

@@ -32,8 +32,13 @@ module _ {a b : ℕ} (la : a < 18446744073709551616) (lb : b < 18446744073709551
   pub done-few : {c : ℕ} → c < 18446744073709551616 → length (line wordDone (a ∷ b ∷ c ∷ [])) ≤ 68
   done-few {c} lc = line-few 19 wordDone (a ∷ b ∷ c ∷ []) (omega arith, (omega arith, (omega arith, tt)))
 
-  pub refused-few : length (line wordRefused (a ∷ b ∷ [])) ≤ 50
-  refused-few = line-few 19 wordRefused (a ∷ b ∷ []) (omega arith, (omega arith, tt))
+-- the line of a refusal
+each-below : (most : ℕ) (ns : List ℕ) → ((k : ℕ) → getD ns k 0 < most) → EachBelow most ns
+each-below most [] each = tt
+each-below most (n ∷ ns) each = (each 0, each-below most ns (λ k. each (suc k)))
+
+pub refused-few : (ns : List ℕ) → ((k : ℕ) → getD ns k 0 < 18446744073709551616) → length (line wordRefused ns) ≤ 8 + 21 * length ns
+refused-few ns each = omega (arith, line-few 19 wordRefused ns (each-below (10 ^ 20) ns (λ k. omega (arith, each k))))
 
 pub answer-few : (answers : List ℕ) (k : ℕ) → k < mostProposals → getD answers k 0 < 256 → length (answerLine answers k) ≤ 12
 unfolding answerLine

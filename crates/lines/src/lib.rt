@@ -9,22 +9,21 @@ use job::read;
 use text::put_line;
 use track::run;
 ghost use mathlib.Core.Path.{_≡_};
-ghost use Prim.Native.Nat.{_≤_};
+ghost use Prim.Native.Nat.{_+_, _*_, _≤_};
 ghost use lib.ListN.{length};
 ghost use Rattle.rules.specs.Job.{written};
-ghost use Rattle.lines.specs.Listing.{refusedText, listingOf};
-ghost use Rattle.lines.specs.Put.{Put};
+ghost use Rattle.lines.specs.Listing.{line, wordRefused, listingOf};
 ghost use Rattle.lines.specs.Listed.{proposalsRead};
 
 // Bytes enough for every listing: a first line of 68 at most, 1,024 proposals of 12 and 4,096 triangles of 35.
 pub const ROOM: usize = 163840;
 
-fn put_refused(code: usize, place: usize, out: &mut [u8]) -> usize
-    requires { ⌜ 163840 ≤ length (now out) ⌝ }
-    ensures { λ r. ⌜ Put (refusedText code place) (now (out .entry)) 0 (now (out .exit)) r × (r ≤ 163840) ⌝ }
+// Writes the line of a refusal to the front of a buffer, and tells how long it is: `refused`, code, place, and what more is told.
+pub fn refused_line(numbers: &[usize], out: &mut [u8]) -> usize
+    requires { ⌜ 8 + 21 * length (now numbers) ≤ length (now out) ⌝ }
+    ensures { λ r. ⌜ (r ≡ length (line wordRefused (now (numbers .entry)))) × (now (out .exit) ≡ written (line wordRefused (now (numbers .entry))) (now (out .entry))) ⌝ }
 {
-    let numbers = [code, place];
-    put_line(b"refused", &numbers, out, 0)
+    put_line(b"refused", numbers, out, 0)
 }
 
 // P of a job that is laid out.
@@ -56,7 +55,8 @@ pub fn list_job(job: &[u8], out: &mut [u8]) -> usize
         &mut work,
     );
     if r.code != 0 {
-        return put_refused(r.code, r.place, out);
+        let numbers = [r.code, r.place];
+        return refused_line(&numbers, out);
     }
     put_done(
         proposals_of(job),

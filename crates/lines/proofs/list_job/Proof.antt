@@ -1,4 +1,5 @@
 use Rattle.lines.specs.Listed.{listed, refused-is, done-fits, done-is}
+use Rattle.lines.specs.Listing.{refusedText}
 use native.Mathlib.Omega.{arith}
 use borrow.Author.Needs.{needs}
 use Rattle.lines.proofs.list_job.Statement.{statement}
@@ -16,13 +17,17 @@ slice-aggregate-run-3 c = search needs
 slice-aggregate-run-4 : tie.Need-slice-aggregate-run-4
 slice-aggregate-run-4 c = search needs
 
-put-refused-requires : tie.Need-put-refused-requires
-put-refused-requires c κs = search needs
+slice-aggregate-refused-line : tie.Need-slice-aggregate-refused-line
+slice-aggregate-refused-line c = search needs
+
+refused-line-requires : tie.Need-refused-line-requires
+refused-line-requires c κs = search needs
 
 returns : tie.Need-returns
+unfolding refusedText
 returns c =
-    let at-put-refused = c .before .before in
-    listed _ (refused-is _ (at-put-refused .before .before .before .before .before .before .before .before .run .ensures) (at-put-refused .before .before .if1 .taken)) (at-put-refused .put-refused .ensures .0) (omega (arith, at-put-refused .put-refused .ensures .1, at-put-refused .before .before .before .before .before .before .before .before .before .before .before .before .before .before .before .pre))
+    let at-refused-line = c .before .before in
+    rw (← refused-is _ (at-refused-line .before .before .before .before .before .before .before .before .before .run .ensures) (at-refused-line .before .before .before .if1 .taken)) (at-refused-line .refused-line .ensures)
 
 slice-aggregate-put-done : tie.Need-slice-aggregate-put-done
 slice-aggregate-put-done c = search needs
@@ -49,7 +54,8 @@ list-job-spec =
     slice-aggregate-run-3
     slice-aggregate-run-4
     (λ c κs. tt)
-    put-refused-requires
+    slice-aggregate-refused-line
+    refused-line-requires
     (λ c. search needs)
     returns
     (λ c κs. tt)
