@@ -27,7 +27,10 @@ main-spec =
     (λ c κs. search needs)
     array-share-prefix-out
     slice-aggregate-print-whole
+    (λ c. search needs)
     (λ c κs. search needs)
+    (λ c κs. search needs)
+    (λ c. search needs)
     (λ c κs. search needs)
     (λ c. search needs)
     (λ c. search needs))

@@ -6,8 +6,8 @@ use mir.Val.{SFits, toZ}
 use mir.Facts.{sfits-lit, toZ-pos}
 use native.Mathlib.Omega.{arith}
 use borrow.Author.Needs.{needs, sfits-of}
-use Rattle.listing.proofs.output.print_whole.Statement.{statement}
-use Rattle.listing.proofs.output.print_whole.Tie as tie
+use Rattle.streams.proofs.output.print_whole.Statement.{statement}
+use Rattle.streams.proofs.output.print_whole.Tie as tie
 
 -- Bytes printed, with a minus, are an i64.
 back-fits : (n : ℕ) → n < 2 ^ 63 → SFits w64 (pos 0 -ℤ toZ w64 n)
@@ -18,7 +18,7 @@ back-fits (suc k) small = subst (λ (z : ℤ). SFits w64 (pos 0 -ℤ z)) (sym (t
     less = omega (arith, small)
 
 sub-take-back : tie.Need-sub-take-back
-sub-take-back c = back-fits (c .before .before .before .print .result) (omega (arith, c .before .before .before .print .ensures, c .before .before .before .before .before .good .0 .1))
+sub-take-back c = back-fits (c .before .before .print .result) (omega (arith, c .before .before .print .ensures, c .before .before .before .before .before .good .0 .1))
 
 pub print-whole-spec : {M : Type 1} → statement M
 print-whole-spec =
@@ -26,7 +26,6 @@ print-whole-spec =
     (tie.spec
     (λ c κs. search needs)
     (λ c κs. search needs)
-    (λ c. search needs)
     (λ c. search needs)
     (λ c κs. search needs)
     (λ c. search needs)

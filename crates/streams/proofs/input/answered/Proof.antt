@@ -6,8 +6,8 @@ use mir.Syntax.{w64}
 use mir.Facts.{toZ-ofZ}
 use Rattle.io.specs.Counts.{clamped}
 use borrow.Author.Needs.{needs}
-use Rattle.listing.proofs.input.answered.Statement.{statement}
-use Rattle.listing.proofs.input.answered.Tie as tie
+use Rattle.streams.proofs.input.answered.Statement.{statement}
+use Rattle.streams.proofs.input.answered.Tie as tie
 
 returns : tie.Need-returns
 returns c =

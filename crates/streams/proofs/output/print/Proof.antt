@@ -2,8 +2,8 @@ use Prim.Native.Nat.{_≤_, _-_}
 use lib.ListN.{length}
 use native.Mathlib.Omega.{arith}
 use borrow.Author.Needs.{needs}
-use Rattle.listing.proofs.output.print.Statement.{statement}
-use Rattle.listing.proofs.output.print.Tie as tie
+use Rattle.streams.proofs.output.print.Statement.{statement}
+use Rattle.streams.proofs.output.print.Tie as tie
 
 abbrev Inv-loop : tie.InvT-loop
 Inv-loop text at₀ at = at ≤ length text

@@ -1,4 +1,4 @@
-// Standard input, read to its end or until the job's room is full.
+// Standard input, read to its end or until the room is full.
 use libc::STDIN_FILENO;
 ghost use mathlib.Core.Path.{_≡_};
 ghost use Prim.Native.Nat.{_+_, _≤_};
@@ -8,12 +8,12 @@ ghost use lib.Signed.{ltZ};
 ghost use Rattle.io.specs.Counts.{Counts, clamped};
 
 // How many bytes came, and whether a read failed: an error of the disk is not the end of the input.
-pub(crate) struct Input {
-    pub(crate) count: usize,
-    pub(crate) failed: bool,
+pub struct Input {
+    pub count: usize,
+    pub failed: bool,
 }
 
-// What C's answer to one read into a part of the job's room says: below zero it failed, zero is the end.
+// What C's answer to one read into a part of the room says: below zero it failed, zero is the end.
 fn answered(got: isize, part: &[u8]) -> Input
     ensures { λ r. ⌜ Counts (r .count) (now (part .entry)) ⌝ }
     ensures { λ r. ⌜ (r .count ≡ clamped got (length (now (part .entry)))) × (r .failed ≡ ltZ got (pos 0)) ⌝ }
@@ -24,22 +24,22 @@ fn answered(got: isize, part: &[u8]) -> Input
     }
 }
 
-// One read into the job's room, from byte `at` on.
-fn read_from(job: &mut [u8], at: usize) -> Input
-    requires { ⌜ at ≤ length (now job) ⌝ }
-    ensures { λ r. ⌜ (length (now (job .exit)) ≡ length (now (job .entry))) × (at + r .count ≤ length (now (job .exit))) ⌝ }
+// One read into the room, from byte `at` on.
+fn read_from(room: &mut [u8], at: usize) -> Input
+    requires { ⌜ at ≤ length (now room) ⌝ }
+    ensures { λ r. ⌜ (length (now (room .exit)) ≡ length (now (room .entry))) × (at + r .count ≤ length (now (room .exit))) ⌝ }
 {
-    let part = &mut job[at..];
+    let part = &mut room[at..];
     let got = libc::read(STDIN_FILENO, part);
     answered(got, part)
 }
 
-pub(crate) fn read_job(job: &mut [u8]) -> Input
-    ensures { λ r. ⌜ Counts (r .count) (now (job .exit)) ⌝ }
+pub fn read_input(room: &mut [u8]) -> Input
+    ensures { λ r. ⌜ Counts (r .count) (now (room .exit)) ⌝ }
 {
     let mut at = 0;
-    while at < job.len() {
-        let more = read_from(job, at);
+    while at < room.len() {
+        let more = read_from(room, at);
         if more.count == 0 {
             return Input {
                 count: at,

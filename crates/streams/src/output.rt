@@ -1,4 +1,4 @@
-// Standard output: a whole listing, or none and a message.
+// Standard output: a whole text, or none and a message; and the line on descriptor 3.
 use libc::SEEK_CUR;
 use libc::SEEK_END;
 use libc::SEEK_SET;
@@ -42,21 +42,19 @@ fn take_back(back: i64) {
     }
 }
 
-// Prints the text and answers true, or says why not and takes back what was printed of it. Some disks tell only at the close that they
-// are full; then nothing can be taken back.
-pub(crate) fn print_whole(text: &[u8]) -> bool {
+// Prints the text and answers true, or says the failure, with the reason, and takes back what was printed of it. Some disks tell only at
+// the close that they are full; then nothing can be taken back.
+pub fn print_whole(text: &[u8], failure: &[u8]) -> bool {
     let printed = print(text);
     if printed == text.len() && libc::close(STDOUT_FILENO) == 0 {
         return true;
     }
-    os::fail(b"listing: the listing could not be printed");
+    os::fail(failure);
     take_back(-(printed as i64));
     false
 }
 
-// Started with an argument, the program writes a word on descriptor 3 when the listing is printed whole. The script waits for the word.
-pub(crate) fn tell() {
-    if os::arg_count() > 1 {
-        io::write_all(TOLD, b"whole\n");
-    }
+// A program of this language has no status. Whoever started it waits for this line on descriptor 3.
+pub fn tell(line: &[u8]) {
+    io::write_all(TOLD, line);
 }

@@ -4,14 +4,14 @@ use lib.ListN.{length}
 use native.Mathlib.Omega.{arith}
 use borrow.Author.Needs.{needs}
 use Rattle.io.proofs.Counting.{counts}
-use Rattle.listing.proofs.input.read_job.Statement.{statement}
-use Rattle.listing.proofs.input.read_job.Tie as tie
+use Rattle.streams.proofs.input.read_input.Statement.{statement}
+use Rattle.streams.proofs.input.read_input.Tie as tie
 
 abbrev Inv-loop : tie.InvT-loop
-Inv-loop job₀ at₀ job at = (length job ≡ length job₀) × (at ≤ length job)
+Inv-loop room₀ at₀ room at = (length room ≡ length room₀) × (at ≤ length room)
 
 abbrev μ-loop : tie.MeasureT-loop
-μ-loop job₀ at₀ job at = length job - at
+μ-loop room₀ at₀ room at = length room - at
 
 returns : tie.Need-returns Inv-loop μ-loop
 returns c = counts _ _ (omega (arith, c .before .before .before .before .read-from .ensures .1))
@@ -19,8 +19,8 @@ returns c = counts _ _ (omega (arith, c .before .before .before .before .read-fr
 returns-2 : tie.Need-returns-2 Inv-loop μ-loop
 returns-2 c = counts _ _ (c .before .loop .inv .1)
 
-pub read-job-spec : {M : Type 1} → statement M
-read-job-spec =
+pub read-input-spec : {M : Type 1} → statement M
+read-input-spec =
     tie.close
     (tie.spec
     Inv-loop
