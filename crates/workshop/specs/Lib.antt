@@ -1,0 +1,7 @@
+-- What the code of `workshop` means beyond `rules` and `lines`, and the laws by which it is proved:
+--     Said   what is said of an STL file
+--     Laws   the reader's answers, and what is said of each
+--     Long   files that are longer than any that is read
+pub mod Said
+pub mod Laws
+pub mod Long
