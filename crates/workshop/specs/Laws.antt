@@ -19,18 +19,17 @@ use Rattle.stl.specs.declared.reader.Reading.the-variants.{Facets}
 use Rattle.trips.specs.Readable.{read-exactly, read-verdict}
 use Rattle.trips.specs.Back.{units-length}
 use Rattle.trips.specs.Trips.{read-front}
-use Rattle.workshop.specs.Said.{zeros, refusal, refused, said, Says}
+use Rattle.workshop.specs.Said.{zeros, refusal, fileRefused, fileSaid, Says}
 
 -- ---- a refusal
 
 pub refusal-said : (bytes : List ℕ) {a b : Reading} → a ≡ b → {left : List ℤ} → told a left ≡ readFile bytes (replicate 36864 (pos 0)) → eqb (verdictOf b .code) 0 ≡ false
     → {numbers : List ℕ} → numbers ≡ refusal (told b left) → {out out′ : List ℕ} {size : ℕ} {no : Bool}
-    → (size ≡ length (line wordRefused numbers)) × (no ≡ true) × (out′ ≡ written (line wordRefused numbers) out) → Says bytes out size no out′
-unfolding said refused zeros
-refusal-said bytes {b = b} variant {left} is code {numbers} e {out} (size, says, after) =
+    → Says (line wordRefused numbers) true out size no out′ → Says (fileSaid bytes) (fileRefused bytes) out size no out′
+unfolding fileSaid fileRefused zeros
+refusal-said bytes {b = b} variant {left} is code e s =
     let answer : told b left ≡ readFile bytes (replicate 36864 (pos 0)) = rw variant at is in
-    let text : line wordRefused numbers ≡ said bytes = rw (← answer, code, ← e) in
-    record { size-is = size ∙ ap length text; no-is = says ∙ rw (← answer, code); after-is = after ∙ ap (λ (t : List ℕ). written t out) text }
+    rw (← answer, code, ← e) s
 
 -- ---- a file that is read
 
@@ -73,13 +72,13 @@ module _ (bytes : List ℕ) {a : Reading} {facets : ℕ} (variant : a ≡ Facets
   units-is = rw (facets-is, left-is) (read-front bytes zeros code .2)
 
   pub facets-said : {out out′ : List ℕ} {size : ℕ}
-      → (size ≡ length (facetsText (take (9 * facets) left))) × (out′ ≡ written (facetsText (take (9 * facets) left)) out) → Says bytes out size false out′
-  unfolding said refused
+      → (size ≡ length (facetsText (take (9 * facets) left))) × (out′ ≡ written (facetsText (take (9 * facets) left)) out) → Says (fileSaid bytes) (fileRefused bytes) out size false out′
+  unfolding fileSaid fileRefused
   facets-said {out} (size, after) =
-      let text : facetsText (take (9 * facets) left) ≡ said bytes = rw (units-is, code) in
+      let text : facetsText (take (9 * facets) left) ≡ fileSaid bytes = rw (units-is, code) in
       record { size-is = size ∙ ap length text; no-is = rw code; after-is = after ∙ ap (λ (t : List ℕ). written t out) text }
 
 -- ---- what is said lies within its buffer
 
-pub says-within : {bytes before after : List ℕ} {size : ℕ} {no : Bool} → Says bytes before size no after → size ≤ length after
-says-within {bytes} {before} s = front-within (said bytes) before (s .size-is, s .after-is)
+pub says-within : {text before after : List ℕ} {size : ℕ} {refusal no : Bool} → Says text refusal before size no after → size ≤ length after
+says-within {text} {before} s = front-within text before (s .size-is, s .after-is)

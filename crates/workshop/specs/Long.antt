@@ -12,7 +12,7 @@ use Rattle.rules.specs.Laws.Truth.{is-true}
 use Rattle.stl.specs.Accepted.{sized}
 use Rattle.stl.specs.Reading.{reading, leftBy, verdictOf, told, told-reading}
 use Rattle.stl.specs.declared.reader.Reading.the-variants.{Length}
-use Rattle.workshop.specs.Said.{zeros, refused, said}
+use Rattle.workshop.specs.Said.{zeros, fileRefused, fileSaid}
 
 module _ (bytes : List ℕ) (long : fileLength mostFacets < length bytes) where
   ill-sized : illSized bytes ≡ true
@@ -31,6 +31,6 @@ module _ (n : ℕ) (input : List ℕ) (large : fileLength mostFacets < n) (whole
   pub front-enough : (lent : List ℤ) → readFile (take n input) lent ≡ readFile input lent
   front-enough lent = sym (long-front lent) ∙ long-refused input (omega arith) lent
 
-  pub said-enough : said (take n input) ≡ said input
-  unfolding said refused verdictOf
+  pub said-enough : fileSaid (take n input) ≡ fileSaid input
+  unfolding fileSaid fileRefused verdictOf
   said-enough = rw (← long-front zeros, ← long-refused input (omega arith) zeros)

@@ -25,15 +25,15 @@ bitsTold (some (x, bits)) = bits ∷ []
 unfoldable pub refusal : Read → List ℕ
 refusal r = r .verdict .code ∷ r .verdict .place ∷ bitsTold (r .off)
 
-unfoldable pub refused : List ℕ → Bool
-refused bytes = not (eqb (readFile bytes zeros .verdict .code) 0)
+unfoldable pub fileRefused : List ℕ → Bool
+fileRefused bytes = not (eqb (readFile bytes zeros .verdict .code) 0)
 
 -- nine units a line; or `refused` and those numbers
-unfoldable pub said : List ℕ → List ℕ
-said bytes = cond (refused bytes) (line wordRefused (refusal (readFile bytes zeros))) (facetsText (unitsIn bytes))
+unfoldable pub fileSaid : List ℕ → List ℕ
+fileSaid bytes = cond (fileRefused bytes) (line wordRefused (refusal (readFile bytes zeros))) (facetsText (unitsIn bytes))
 
--- what is said stands at the front of a buffer, so many bytes
-pub record Says (bytes before : List ℕ) (size : ℕ) (no : Bool) (after : List ℕ) : Type 0 where
-  pub size-is : size ≡ length (said bytes)
-  pub no-is : no ≡ refused bytes
-  pub after-is : after ≡ written (said bytes) before
+-- a text, and whether it is the line of a refusal: it stands at the front of a buffer, and its size and that are told
+pub record Says (text : List ℕ) (refuses : Bool) (before : List ℕ) (size : ℕ) (no : Bool) (after : List ℕ) : Type 0 where
+  pub size-is : size ≡ length text
+  pub no-is : no ≡ refuses
+  pub after-is : after ≡ written text before

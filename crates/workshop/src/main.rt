@@ -1,7 +1,7 @@
 // The workshop's program: standard input is an STL file, and its facets are printed. It tells on standard error what failed, and then
 // nothing stands on standard output that is not whole; a refusal goes to the script beside it alone, so that it has nothing there either.
 mod read;
-mod told;
+mod said;
 
 use read::print_facets;
 

@@ -1,54 +1,21 @@
-// The reading side: an STL file on standard input has its facets printed, nine units a line, or its refusal told.
-use crate::told::tell_script;
+// The reading side: an STL file on standard input has its facets printed, nine units a line.
+use crate::said::Said;
+use crate::said::refused;
+use crate::said::refused_off;
+use crate::said::say;
 use lines::facets::FACETS_ROOM;
 use lines::facets::list_facets;
-use lines::refused_line;
 use stl::reader::Reading;
 use stl::reader::read_file;
 use streams::input::read_input;
-use streams::output::print_whole;
-ghost use mathlib.Core.Path.{_≡_};
-ghost use mathlib.Core.Bool.{true};
-ghost use mathlib.Core.List.{[], _∷_};
 ghost use Prim.Native.Nat.{_≤_};
 ghost use lib.ListN.{length};
-ghost use Rattle.rules.specs.Job.{written};
-ghost use Rattle.lines.specs.Listing.{line, wordRefused};
-ghost use Rattle.workshop.specs.Said.{Says};
-
-// So many bytes at the front of a buffer: a text to print, or the line of a refusal.
-struct Said {
-    size: usize,
-    refused: bool,
-}
-
-fn refused(code: usize, place: usize, out: &mut [u8]) -> Said
-    requires { ⌜ 71 ≤ length (now out) ⌝ }
-    ensures { λ r. ⌜ (r .size ≡ length (line wordRefused (code ∷ place ∷ []))) × (r .refused ≡ true) × (now (out .exit) ≡ written (line wordRefused (code ∷ place ∷ [])) (now (out .entry))) ⌝ }
-{
-    let numbers = [code, place];
-    Said {
-        size: refused_line(&numbers, out),
-        refused: true,
-    }
-}
-
-// A number off the grid is told by its bits.
-fn refused_off(facet: usize, bits: usize, out: &mut [u8]) -> Said
-    requires { ⌜ 71 ≤ length (now out) ⌝ }
-    ensures { λ r. ⌜ (r .size ≡ length (line wordRefused (5 ∷ facet ∷ bits ∷ []))) × (r .refused ≡ true) × (now (out .exit) ≡ written (line wordRefused (5 ∷ facet ∷ bits ∷ [])) (now (out .entry))) ⌝ }
-{
-    let numbers = [5, facet, bits];
-    Said {
-        size: refused_line(&numbers, out),
-        refused: true,
-    }
-}
+ghost use Rattle.workshop.specs.Said.{fileSaid, fileRefused, Says};
 
 // Writes what is to be said of a file to the front of a buffer.
 fn list_file(file: &[u8], out: &mut [u8]) -> Said
     requires { ⌜ 258048 ≤ length (now out) ⌝ }
-    ensures { λ r. ⌜ Says (now (file .entry)) (now (out .entry)) (r .size) (r .refused) (now (out .exit)) ⌝ }
+    ensures { λ r. ⌜ Says (fileSaid (now (file .entry))) (fileRefused (now (file .entry))) (now (out .entry)) (r .size) (r .refused) (now (out .exit)) ⌝ }
 {
     let mut units = [0i16; 36864];
     match read_file(file, &mut units) {
@@ -75,11 +42,9 @@ pub(crate) fn print_facets() {
     }
     let mut out = [0u8; FACETS_ROOM];
     let said = list_file(&file[..input.count], &mut out);
-    if said.refused {
-        tell_script(&out[..said.size]);
-        return;
-    }
-    if print_whole(&out[..said.size], b"stl: the facets could not be printed") {
-        tell_script(b"whole\n");
-    }
+    say(
+        &out[..said.size],
+        said.refused,
+        b"stl: the facets could not be printed",
+    );
 }

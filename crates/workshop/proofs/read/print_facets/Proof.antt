@@ -6,16 +6,10 @@ use Rattle.workshop.proofs.read.print_facets.Statement.{statement}
 use Rattle.workshop.proofs.read.print_facets.Tie as tie
 
 array-share-prefix-out : tie.Need-array-share-prefix-out
-array-share-prefix-out c = says-within (c .before .before .list-file .ensures)
+array-share-prefix-out c = says-within (c .before .list-file .ensures)
 
-slice-aggregate-tell-script : tie.Need-slice-aggregate-tell-script
-slice-aggregate-tell-script c = sym (length-take-le _ _ (says-within (c .before .before .before .list-file .ensures)))
-
-array-share-prefix-out-2 : tie.Need-array-share-prefix-out-2
-array-share-prefix-out-2 c = says-within (c .before .before .list-file .ensures)
-
-slice-aggregate-print-whole : tie.Need-slice-aggregate-print-whole
-slice-aggregate-print-whole c = sym (length-take-le _ _ (says-within (c .before .before .before .list-file .ensures)))
+slice-aggregate-say : tie.Need-slice-aggregate-say
+slice-aggregate-say c = sym (length-take-le _ _ (says-within (c .before .before .list-file .ensures)))
 
 pub print-facets-spec : {M : Type 1} → statement M
 print-facets-spec =
@@ -31,14 +25,7 @@ print-facets-spec =
     (λ c. search needs)
     (λ c κs. search needs)
     array-share-prefix-out
-    slice-aggregate-tell-script
-    (λ c κs. search needs)
-    (λ c. search needs)
-    array-share-prefix-out-2
-    slice-aggregate-print-whole
+    slice-aggregate-say
     (λ c. search needs)
     (λ c κs. search needs)
-    (λ c. search needs)
-    (λ c κs. search needs)
-    (λ c. search needs)
     (λ c. search needs))
