@@ -1,10 +1,11 @@
-/* stack JOB...: the most stack that track_run takes on these jobs, in bytes.
- * Past TRACK_STACK the status is 1.
+/* stack JOB...: the most stack that a call takes on these jobs, in bytes: of
+ * track_run, of track_stl_run, and of the two that write and read the STL file
+ * that the latter leaves. Past TRACK_STACK the status is 1.
  *
- * Each job runs on a stack of its own that was painted before, where nothing
+ * Each call runs on a stack of its own that was painted before, where nothing
  * else is called; from the caller's frame down to the deepest byte that changed
  * is what the call took. A byte may be written with the paint's own value, so
- * each job runs once with each of two paints. */
+ * each call runs once with each of two paints. */
 #include <stdio.h>
 #include <stdlib.h>
 #include <string.h>
@@ -20,7 +21,11 @@ static uint8_t answers[TRACK_MOST_ANSWERS_LEN];
 static uint8_t final_marks[TRACK_MOST_FINAL_MARKS_LEN];
 static uint32_t triangles[TRACK_MOST_TRIANGLES_LEN];
 static uint32_t work[TRACK_MOST_WORK_LEN];
+static uint8_t file[TRACK_MOST_STL_LEN];
+static int16_t units[TRACK_MOST_STL_UNITS_LEN];
 static uint32_t outcome[TRACK_OUTCOME_LEN];
+static uint32_t was_written[TRACK_STL_WRITE_OUTCOME_LEN];
+static uint32_t was_read[TRACK_STL_READ_OUTCOME_LEN];
 
 static unsigned char *callers_frame;
 
@@ -41,17 +46,61 @@ static void read_job(const char *name)
     fclose(file);
 }
 
-/* Has nothing on the stack but what it passes. */
-static void call(void)
+/* Set behind each call, so that the call does not take the caller's place. */
+static volatile int returned;
+
+/* Each of these has nothing on the stack but what it passes. */
+static void call_run(void)
 {
     callers_frame = (unsigned char *)__builtin_frame_address(0);
     track_run(job, job_len, answers, TRACK_MOST_ANSWERS_LEN,
               final_marks, TRACK_MOST_FINAL_MARKS_LEN,
               triangles, TRACK_MOST_TRIANGLES_LEN,
               work, TRACK_MOST_WORK_LEN, outcome);
+    returned = 1;
 }
 
-static size_t bytes_taken(int paint)
+static void call_stl_run(void)
+{
+    callers_frame = (unsigned char *)__builtin_frame_address(0);
+    track_stl_run(job, job_len, answers, TRACK_MOST_ANSWERS_LEN,
+                  final_marks, TRACK_MOST_FINAL_MARKS_LEN,
+                  triangles, TRACK_MOST_TRIANGLES_LEN,
+                  work, TRACK_MOST_WORK_LEN, file, TRACK_MOST_STL_LEN, outcome);
+    returned = 1;
+}
+
+static void call_stl_read(void)
+{
+    callers_frame = (unsigned char *)__builtin_frame_address(0);
+    track_stl_read(file, TRACK_STL_LEN(outcome[TRACK_OUTCOME_TRIANGLES]),
+                   units, TRACK_MOST_STL_UNITS_LEN, was_read);
+    returned = 1;
+}
+
+static void call_stl_write(void)
+{
+    callers_frame = (unsigned char *)__builtin_frame_address(0);
+    uint32_t facets = was_read[TRACK_STL_READ_OUTCOME_FACETS];
+    track_stl_write(units, TRACK_STL_UNITS_LEN(facets),
+                    file, TRACK_MOST_STL_LEN, was_written);
+    returned = 1;
+}
+
+/* In this order: the second writes what the third reads, and the last writes
+ * that again. */
+static const struct {
+    const char *name;
+    void (*run)(void);
+} calls[] = {
+    {"track_run", call_run},
+    {"track_stl_run", call_stl_run},
+    {"track_stl_read", call_stl_read},
+    {"track_stl_write", call_stl_write},
+};
+#define CALLS (sizeof calls / sizeof *calls)
+
+static size_t bytes_taken(void (*call)(void), int paint)
 {
     ucontext_t here, painted;
     memset(stack, paint, PAINTED);
@@ -73,27 +122,28 @@ static size_t bytes_taken(int paint)
 int main(int argc, char **argv)
 {
     static const int paints[] = {0x55, 0xaa};
-    size_t most = 0;
-    const char *most_on = NULL;
-    for (int i = 1; i < argc; i++) {
-        read_job(argv[i]);
-        for (int run = 0; run < 2; run++) {
-            size_t bytes = bytes_taken(paints[run]);
-            if (bytes > most) {
-                most = bytes;
-                most_on = argv[i];
-            }
-        }
-    }
-    if (most_on == NULL) {
+    size_t most[CALLS] = {0};
+    int past = 0;
+    if (argc < 2) {
         fputs("stack: nothing was measured\n", stderr);
         return 1;
     }
-    printf("track_run takes %zu bytes of stack on %s, ", most, most_on);
-    if (most > TRACK_STACK) {
-        printf("more than the %d of TRACK_STACK\n", TRACK_STACK);
-        return 1;
+    for (int i = 1; i < argc; i++) {
+        read_job(argv[i]);
+        for (size_t k = 0; k < CALLS; k++) {
+            for (int run = 0; run < 2; run++) {
+                size_t bytes = bytes_taken(calls[k].run, paints[run]);
+                if (bytes > most[k])
+                    most[k] = bytes;
+            }
+        }
     }
-    printf("at most %d\n", TRACK_STACK);
-    return 0;
+    printf("bytes of stack:");
+    for (size_t k = 0; k < CALLS; k++) {
+        printf(" %s %zu,", calls[k].name, most[k]);
+        past |= most[k] > TRACK_STACK;
+    }
+    printf(" %s %d\n", past ? "more than TRACK_STACK," : "at most",
+           TRACK_STACK);
+    return past;
 }

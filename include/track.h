@@ -1,9 +1,11 @@
-/* Runs track jobs, from C (C99 and later) and C++. docs/JOBS.md explains every
- * word used here.
+/* Runs track jobs, and writes and reads their skins as binary STL, from C (C99
+ * and later) and C++. docs/JOBS.md explains every word used here.
  *
- * `rt staticlib track_c` makes the archive with the one function below,
- * target/staticlib/libtrack_c.a. It is x86-64 code for Linux, and of the C
- * library it needs memset alone. examples/outcome.c is a program that uses it. */
+ * `rt staticlib track_c` makes the archive with the four functions below,
+ * target/staticlib/libtrack_c.a: track_run, track_stl_run, track_stl_write and
+ * track_stl_read. It is x86-64 code for Linux, and of the C library it needs
+ * memset alone. examples/outcome.c and examples/stl.c are programs that use
+ * it. */
 
 #ifndef TRACK_H
 #define TRACK_H
@@ -101,13 +103,46 @@ enum track_word_7 {
 };
 #define TRACK_WORD_7_AT 28
 
+/* A binary STL file is a list of facets. Each is a triangle of three corners,
+ * and each corner three numbers, x, y and z. Low byte first:
+ *
+ *     at byte    there stand
+ *     0          the ASCII text `track skin` in 10 bytes, then 70 bytes of zero
+ *     80         the number of facets, a word of four bytes
+ *     84 + 50f   facet f: its normal, 12 bytes of zero; its three corners, nine
+ *                numbers of four bytes; and two bytes of zero
+ *
+ * A number is an f32 (binary32 of IEEE 754), in metres: a coordinate in units,
+ * divided by 16, which loses nothing. Zero is written positive. The grid is the
+ * numbers of the whole units from -1023 to 1023; a negative zero, a NaN, an
+ * infinity and every number between or beyond are off it.
+ *
+ * The normals are zero: which side is out is told by the order of the corners.
+ * In the file of a job's skin each facet a, b, c is outward, also where word 7
+ * of the job is 3 and its triangles are listed rising: (b - a) x (c - a) points
+ * away from the inside, as is said above enum track_word_7. So where the air is
+ * inside it points into the ground; for the other way exchange the last two
+ * corners of every facet.
+ *
+ * Outside of a file a facet is nine units, int16_t, corner by corner: the x, y
+ * and z of its first corner, those of its second and those of its third. The
+ * length of a list of units and of a file, in elements: */
+#define TRACK_STL_MOST_FACETS 4096
+#define TRACK_STL_UNITS_LEN(facets) (9 * (facets))
+#define TRACK_STL_LEN(facets) (84 + 50 * (facets))
+
+/* The same for the most facets: the file of every job's skin fits, as that has
+ * at most 2N triangles. */
+#define TRACK_MOST_STL_UNITS_LEN TRACK_STL_UNITS_LEN(TRACK_STL_MOST_FACETS)
+#define TRACK_MOST_STL_LEN TRACK_STL_LEN(TRACK_STL_MOST_FACETS)
+
 /* A call takes at most so many bytes of stack, what the caller passes on the
  * stack included. With less the system stops the program, unless it is a thread
  * whose guard area is smaller than what is missing: then memory beside its
  * stack is overwritten. */
 #define TRACK_STACK 52000
 
-/* What each word of the outcome is. */
+/* What each word of the outcome of track_run and track_stl_run is. */
 enum track_outcome {
     TRACK_OUTCOME_CODE,      /* an enum track_code */
     TRACK_OUTCOME_PLACE,     /* the row or id that is named with the code */
@@ -116,8 +151,8 @@ enum track_outcome {
     TRACK_OUTCOME_LEN        /* the number of words */
 };
 
-/* Job codes. The first that applies is given; all but the first refuse the job,
- * and a refusal has zero for both counts. The place is 0 where none is named. */
+/* Job codes. The first that applies is given; all but the first refuse, and a
+ * refusal has zero for both counts. The place is 0 where none is named. */
 enum track_code {
     TRACK_CODE_RUN = 0,
     TRACK_CODE_SHORT = 1,    /* under 32 bytes */
@@ -150,9 +185,64 @@ enum track_code {
                                 also one that no row holds */
     TRACK_CODE_FLAT = 14,    /* a finite row of zero volume; place: the lowest
                                 such row */
-    TRACK_CODE_FOLDED = 15   /* two finite neighbours on the same side of their
+    TRACK_CODE_FOLDED = 15,  /* two finite neighbours on the same side of their
                                 triangle; place: the lowest row in such a
                                 pair */
+    /* Of track_stl_run alone: the job was run, and its file is refused. */
+    TRACK_CODE_NO_POINTS = 20, /* a job without points */
+    TRACK_CODE_FILE_ROOM = 21  /* file_len is under TRACK_STL_LEN of the number
+                                  of triangles */
+};
+
+/* What each word of the outcome of track_stl_write is. */
+enum track_stl_write_outcome {
+    TRACK_STL_WRITE_OUTCOME_CODE,  /* an enum track_stl_write_code */
+    TRACK_STL_WRITE_OUTCOME_PLACE, /* the index that is named with the code */
+    TRACK_STL_WRITE_OUTCOME_LEN    /* the number of words */
+};
+
+/* Codes of track_stl_write. The first that applies is given; all but the first
+ * refuse the list. The place is 0 where none is named. */
+enum track_stl_write_code {
+    TRACK_STL_WRITE_CODE_WRITTEN = 0,
+    TRACK_STL_WRITE_CODE_FACETS = 1, /* not whole facets: units_len is no
+                                        multiple of 9; or over 4,096 of them */
+    TRACK_STL_WRITE_CODE_NUMBER = 2, /* a number outside -1023 to 1023; place:
+                                        the index of the first such number in
+                                        the list */
+    TRACK_STL_WRITE_CODE_ROOM = 3    /* file_len is under TRACK_STL_LEN of the
+                                        number of facets */
+};
+
+/* What each word of the outcome of track_stl_read is. */
+enum track_stl_read_outcome {
+    TRACK_STL_READ_OUTCOME_CODE,   /* an enum track_stl_read_code */
+    TRACK_STL_READ_OUTCOME_PLACE,  /* the facet that is named with the code */
+    TRACK_STL_READ_OUTCOME_FACETS, /* how many facets were read; a refusal has
+                                      zero */
+    TRACK_STL_READ_OUTCOME_BITS,   /* with code 5 the number off the grid as it
+                                      stood: its 32 bits and no float, since a
+                                      NaN has many; with any other code zero */
+    TRACK_STL_READ_OUTCOME_LEN     /* the number of words */
+};
+
+/* Codes of track_stl_read. The first that applies is given; all but the first
+ * refuse the file. Of 4 and 5 the first facet at fault decides, with 4 before 5
+ * in that facet. The place is 0 where none is named. */
+enum track_stl_read_code {
+    TRACK_STL_READ_CODE_READ = 0,
+    TRACK_STL_READ_CODE_LENGTH = 1, /* under 84 bytes, over 4,096 facets, or
+                                       file_len is not TRACK_STL_LEN of the
+                                       number of facets in the file */
+    TRACK_STL_READ_CODE_HEADER = 2, /* the first 80 bytes are not as above */
+    TRACK_STL_READ_CODE_ROOM = 3,   /* units_len is under TRACK_STL_UNITS_LEN of
+                                       the number of facets */
+    TRACK_STL_READ_CODE_MARKED = 4, /* a facet whose normal or last two bytes
+                                       are not zero; place: that facet, counted
+                                       from 0 */
+    TRACK_STL_READ_CODE_OFF = 5     /* a number off the grid; place: its facet.
+                                       Of the facet's numbers the first off the
+                                       grid is handed back */
 };
 
 /* Proposal answers. The first that applies is given, TAKEN where no other does;
@@ -180,17 +270,19 @@ enum track_answer {
 extern "C" {
 #endif
 
-/* Runs a job: checks its table, its marks and its points, answers its proposals
- * and lists the skin.
- *
- * Every call returns, whatever bytes the job has and whatever the buffers hold.
- * It reads and writes nothing outside the lengths given, takes no memory but
- * the stack, and keeps nothing, so threads may call it at the same time, each
- * with buffers and an outcome of its own; a job may be shared.
+/* Every call of a function below returns, whatever bytes and numbers it is
+ * given and whatever the buffers hold. It reads and writes nothing outside the
+ * lengths given, takes no memory but the stack, and keeps nothing, so threads
+ * may call at the same time, each with buffers and an outcome of its own; what
+ * is only read may be shared.
  *
  * Each buffer is a pointer and its length in elements, not bytes. The buffers
- * must not overlap each other, the job or the outcome. A pointer may be null if
- * its length is 0. A buffer may be longer than the job needs.
+ * that a call writes must not overlap each other, what it reads or the outcome.
+ * A pointer may be null if its length is 0. A buffer may be longer than is
+ * needed. The outcome is never null, and every call writes all of its words. */
+
+/* Runs a job: checks its table, its marks and its points, answers its proposals
+ * and lists the skin.
  *
  * A refusal leaves answers, final_marks and triangles as they were.
  *
@@ -208,7 +300,7 @@ extern "C" {
  *              word 4r + c is the row across the triangle of row r that leaves
  *              out its corner c. Codes 1 to 4 leave work as it was; codes 5 to
  *              15 leave zero in its first 4N words.
- * outcome      TRACK_OUTCOME_LEN words, all written by every call; never null
+ * outcome      TRACK_OUTCOME_LEN words
  *
  * Of each buffer, what stands behind these bytes and words is never changed. */
 void track_run(const uint8_t *job, size_t job_len,
@@ -217,6 +309,56 @@ void track_run(const uint8_t *job, size_t job_len,
                uint32_t *triangles, size_t triangles_len,
                uint32_t *work, size_t work_len,
                uint32_t outcome[TRACK_OUTCOME_LEN]);
+
+/* Runs a job as track_run does, and writes its skin after the last proposal as
+ * binary STL, outward whatever word 7 asks for, a facet for each triangle in
+ * the order of the list. The job needs points.
+ *
+ * A job that track_run refuses has the same outcome here. One that is run gets
+ * 20 or 21 if it has no points or file is too short, and else 0 and the counts
+ * of track_run. With 20 and 21 the place and both counts are zero. In each case
+ * answers, final_marks, triangles and work are left as track_run leaves them:
+ * with 20 and 21 as with its code 0, and triangles in the order that word 7 asks
+ * for.
+ *
+ * file         TRACK_STL_LEN bytes, of the number of triangles. That number is
+ *              known after the run; TRACK_STL_LEN(2 * N) bytes are enough. Code
+ *              0 leaves the file at the front, and what stands behind it is not
+ *              changed. Every other code leaves file as it was.
+ *
+ * The other parameters are those of track_run. */
+void track_stl_run(const uint8_t *job, size_t job_len,
+                   uint8_t *answers, size_t answers_len,
+                   uint8_t *final_marks, size_t final_marks_len,
+                   uint32_t *triangles, size_t triangles_len,
+                   uint32_t *work, size_t work_len,
+                   uint8_t *file, size_t file_len,
+                   uint32_t outcome[TRACK_OUTCOME_LEN]);
+
+/* Writes a list of units as binary STL, the facets in the order of the list and
+ * their corners as they stand. What it writes track_stl_read reads back as the
+ * same list.
+ *
+ * units        nine for each facet, only read
+ * file         TRACK_STL_LEN bytes. Code 0 leaves the file at the front, and
+ *              what stands behind it is not changed. Every other code leaves
+ *              file as it was.
+ * outcome      TRACK_STL_WRITE_OUTCOME_LEN words */
+void track_stl_write(const int16_t *units, size_t units_len,
+                     uint8_t *file, size_t file_len,
+                     uint32_t outcome[TRACK_STL_WRITE_OUTCOME_LEN]);
+
+/* Reads a binary STL file of grid numbers, such as the two functions above
+ * write. track_stl_write makes the same bytes of what it reads.
+ *
+ * file         the bytes of the file, only read
+ * units        TRACK_STL_UNITS_LEN numbers. Code 0 leaves nine units for each
+ *              facet at the front, and what stands behind them is not changed.
+ *              Every other code leaves units as they were.
+ * outcome      TRACK_STL_READ_OUTCOME_LEN words */
+void track_stl_read(const uint8_t *file, size_t file_len,
+                    int16_t *units, size_t units_len,
+                    uint32_t outcome[TRACK_STL_READ_OUTCOME_LEN]);
 
 #ifdef __cplusplus
 }
