@@ -15,7 +15,7 @@ use Rattle.rules.specs.Laws.Written.{written-at}
 use Rattle.rules.specs.Laws.Proposals.{answer-at, final-more}
 use Rattle.rules.specs.Laws.Job.{job-corners, job-rows, job-proposals, job-answers}
 use Rattle.rules.specs.Reading.Neighbours.{Side}
-use Rattle.rules.specs.Reading.Closed.{Closed, across-is, across-other, list-length, list-at}
+use Rattle.rules.specs.Reading.Closed.{across-is, across-other, list-length, list-at}
 use Rattle.rules.specs.Reading.Answers.{answer-exactly, taken-exactly}
 use Rattle.rules.specs.Reading.Skin.{inside-reads}
 use Rattle.rules.specs.Reading.Room.{skin-same-length, skin-once, skin-listed}

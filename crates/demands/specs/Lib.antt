@@ -1,4 +1,4 @@
--- The three demands, and what document 02 promises beside them, over `track::run` itself.
+-- The three demands, and what document 02 promises beside them, over `track::run` itself; and what it promises of STL, over the three calls.
 --     Demands  the page to read: all of it, of one run
 --     Given    demand 1 is kept
 --     Grown    demand 2 is kept
@@ -8,6 +8,8 @@
 --     Kept     all of it follows from the contract of `track::run`, and says all that it says
 --     Settled  each public call leaves one possible result
 --     ShutOut  versions that the demands shut out
+--     Workshop the page to read for document 02 (vi)
+--     BothWays it is kept: writing then reading, and reading then writing
 pub mod Demands
 pub mod Given
 pub mod Grown
@@ -17,3 +19,5 @@ pub mod Outwards
 pub mod Kept
 pub mod Settled
 pub mod ShutOut
+pub mod Workshop
+pub mod BothWays

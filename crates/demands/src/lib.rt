@@ -1,5 +1,6 @@
 // The three demands on one function, and the one possible result of each public call (settled).
 mod settled;
+mod workshop;
 
 use track::Outcome;
 ghost use Rattle.track.specs.Outcomes.{lent};
