@@ -1,4 +1,4 @@
--- Document 02 (vi) is kept: writing then reading gives the same corners, and an accepted file reads and writes to the same bytes.
+-- Document 02 (vi) is kept: numbers, writing then reading, and reading then writing.
 use mathlib.Core.Path.{_≡_, refl, sym, ap, ap₂, _∙_}
 use mathlib.Core.Bool.{Bool, true, false}
 use mathlib.Core.Logic.{_↔_}
@@ -7,28 +7,44 @@ use mathlib.Core.Option.{Option}
 use Prim.Native.Nat.{ℕ, _*_, _≤_, _<_}
 use native.Mathlib.Omega.{arith}
 use lib.Dec.{eqb}
-use lib.Ieee.{Float}
+use lib.Ieee.{Float, div, ofInt, ofBits, toBits}
 use lib.IntN.{ℤ}
 use lib.ListN.{length, getD, take}
 use borrow.Author.Tests.{eqb-true, eq-eqb, ne-eqb}
 use Rattle.rules.specs.First.{Verdict, firstMatch}
 use Rattle.rules.specs.Job.{written}
-use Rattle.rules.specs.Stl.{fileLength, facetsOf, fileOf, writeTests, Wrote, writeFacets, countIn, readTests, unitsIn, Read, readFile}
+use Rattle.rules.specs.Stl.{metres, bitsOf, fileLength, facetsOf, fileOf, writeTests, Wrote, writeFacets, countIn, readTests, unitsIn, Read, readFile}
 use Rattle.rules.specs.Laws.Truth.{not-both}
 use Rattle.rules.specs.Laws.Written.{written-length}
 use Rattle.rules.specs.Laws.Stl.{file-length}
+use Rattle.rules.specs.Reading.Points.{range-reads}
+use Rattle.grid.specs.Exact.{exact}
+use Rattle.grid.specs.Named.{units-exactly}
 use Rattle.trips.specs.Writable.{wrote-whole}
 use Rattle.trips.specs.Readable.{read-whole, read-verdict}
 use Rattle.trips.specs.Forth.{file-count, file-readable, file-units}
 use Rattle.trips.specs.Back.{units-length, units-file, units-writable}
 use Rattle.trips.specs.Trips.{Writable, wrote-exactly, Readable, read-exactly, wrote-front, read-front}
-use Rattle.demands.specs.Workshop.{Filled, WrittenRead, ReadWritten}
+use Rattle.demands.specs.Workshop.{Numbers, Filled, WrittenRead, ReadWritten}
 
 abbrev wrote : Verdict → List ℕ → Wrote
 wrote v left = record { verdict = v; left = left }
 
 abbrev read : Verdict → ℕ → Option (Float × ℕ) → List ℤ → Read
 read v facets off left = record { verdict = v; facets = facets; off = off; left = left }
+
+-- ---- numbers
+
+pub numbers : Numbers
+unfolding metres bitsOf div ofInt ofBits toBits
+numbers = record {
+  exact = λ u on. exact u (range-reads u .1 on);
+  zero-positive = refl;
+  named = λ bits u.
+      let (names, named) = units-exactly bits u in
+      let (reads, read) = range-reads u in
+      (λ x. let (on, e) = names x in (reads on, e), λ (on, e). named (read on, e));
+}
 
 -- ---- each call by itself: it is accepted exactly if its list or its file is one that is taken, and fills its buffer then
 

@@ -33,7 +33,7 @@ module _ (bytes : List ℕ) (before : Lent) {o : Outcome} {after : Lent} (ran : 
   grown = demand-2 bytes before ran zero-code
 
   -- as many triangles are left as were counted
-  pub listed-many : length (listedOf job) ≡ o .triangles
+  listed-many : length (listedOf job) ≡ o .triangles
   listed-many = skin-same-length (job .table) (insideIn (finalOf job)) _ ∙ sym (grown .triangles-counted)
 
   -- the front of triangles is the skin in the order asked for

@@ -9,7 +9,8 @@
 --     Settled  each public call leaves one possible result
 --     ShutOut  versions that the demands shut out
 --     Workshop the page to read for document 02 (vi)
---     BothWays it is kept: writing then reading, and reading then writing
+--     BothWays it is kept: numbers, writing then reading, and reading then writing
+--     Exports  it is kept: the file of a job's skin
 pub mod Demands
 pub mod Given
 pub mod Grown
@@ -21,3 +22,4 @@ pub mod Settled
 pub mod ShutOut
 pub mod Workshop
 pub mod BothWays
+pub mod Exports

@@ -3,11 +3,14 @@ use stl::reader::Reading;
 use stl::reader::read_file;
 use stl::writer::Writing;
 use stl::writer::write_facets;
+use track::Outcome;
+use track_stl::write_skin;
 ghost use mathlib.Core.Path.{_≡_};
 ghost use lib.Dec.{eqb};
 ghost use Rattle.stl.specs.Writing as writing;
 ghost use Rattle.stl.specs.Reading as reading;
-ghost use Rattle.demands.specs.Workshop.{WrittenRead, ReadWritten};
+ghost use Rattle.track.specs.Outcomes.{lent};
+ghost use Rattle.demands.specs.Workshop.{WrittenRead, ReadWritten, SkinFile};
 
 fn is_done(answer: Writing) -> bool
     ensures { λ r. ⌜ r ≡ eqb (writing.verdictOf answer .code) 0 ⌝ }
@@ -53,4 +56,19 @@ pub(crate) fn read_then_write(file: &[u8], units: &mut [i16], again: &mut [u8]) 
     }
     let size = (file.len() - 84) / 50 * 9;
     is_done(write_facets(&units[..size], again))
+}
+
+// Runs a job, and writes its skin.
+pub(crate) fn write_job(
+    job: &[u8],
+    answers: &mut [u8],
+    final_marks: &mut [u8],
+    triangles: &mut [u32],
+    work: &mut [u32],
+    file: &mut [u8],
+) -> Outcome
+    ensures { λ r. ⌜ SkinFile (now (job .entry)) (lent (now (answers .entry)) (now («final_marks» .entry)) (now (triangles .entry)) (now (work .entry))) (now (file .entry))
+        r (lent (now (answers .exit)) (now («final_marks» .exit)) (now (triangles .exit)) (now (work .exit))) (now (file .exit)) ⌝ }
+{
+    write_skin(job, answers, final_marks, triangles, work, file)
 }
