@@ -12,6 +12,15 @@ use Rattle.job.specs.declared.Header.{Header}
 use Rattle.job.specs.declared.Reading.{Reading}
 use Rattle.job.specs.declared.Reading.the-variants as reading
 use Rattle.job.specs.Reading as job
+use lib.IntN.{ℤ}
+use lib.Ieee.{Float}
+use Rattle.rules.specs.Stl.{Wrote, Read}
+use Rattle.stl.specs.declared.writer.Writing.{Writing}
+use Rattle.stl.specs.declared.writer.Writing.the-variants as writing
+use Rattle.stl.specs.Writing as stlWriting
+use Rattle.stl.specs.declared.reader.Reading as readerReading
+use Rattle.stl.specs.declared.reader.Reading.the-variants as file
+use Rattle.stl.specs.Reading as stlReading
 use Rattle.values.specs.declared.Found.{Found}
 use Rattle.values.specs.declared.Found.the-variants.{At, Nowhere}
 use Rattle.values.specs.Search.{placeOf}
@@ -121,3 +130,43 @@ stop-is t inside a b first second stop turned = record {
   stops = turned;
   only = λ other turned′. let (at, next) = turned-once t inside a b first second turned′ turned in λ i. record { at = at i; next = next i };
 }
+
+-- ---- `stl::writer::write_facets`
+
+unfoldable pub writingAt : Verdict → Writing
+writingAt v = cond (eqb (v .code) 1) writing.Facets (cond (eqb (v .code) 2) (writing.Number (v .place)) (cond (eqb (v .code) 3) writing.Room writing.Done))
+
+pub writing-is : (w : Writing) {left : List ℕ} {r : Wrote} → stlWriting.told w left ≡ r → (w ≡ writingAt (r .verdict)) × (left ≡ r .left)
+unfolding writingAt stlWriting.verdictOf
+writing-is w e = (sym (back w) ∙ ap (λ (x : Wrote). writingAt (x .verdict)) e, ap (λ (x : Wrote). x .left) e)
+  where
+    back : (w : Writing) → writingAt (stlWriting.verdictOf w) ≡ w
+    back writing.Done = refl
+    back writing.Facets = refl
+    back (writing.Number k) = refl
+    back writing.Room = refl
+
+-- ---- `stl::reader::read_file`
+
+-- a number off the grid with its bits, and its facet
+unfoldable pub offAt : Option (Float × ℕ) → ℕ → readerReading.Reading
+offAt none facet = file.Marked facet
+offAt (some (x, bits)) facet = file.Off x bits facet
+
+unfoldable pub fileReadingAt : Read → readerReading.Reading
+fileReadingAt r =
+    let v = r .verdict in
+    cond (eqb (v .code) 1) file.Length (cond (eqb (v .code) 2) file.Header (cond (eqb (v .code) 3) file.Room
+    (cond (eqb (v .code) 4) (file.Marked (v .place)) (cond (eqb (v .code) 5) (offAt (r .off) (v .place)) (file.Facets (r .facets))))))
+
+pub file-reading-is : (a : readerReading.Reading) {left : List ℤ} {r : Read} → stlReading.told a left ≡ r → (a ≡ fileReadingAt r) × (left ≡ r .left)
+unfolding fileReadingAt offAt stlReading.verdictOf stlReading.facetsIn stlReading.offIn
+file-reading-is a {left} e = (sym (back a) ∙ ap fileReadingAt e, ap (λ (x : Read). x .left) e)
+  where
+    back : (a : readerReading.Reading) → fileReadingAt (stlReading.told a left) ≡ a
+    back (file.Facets n) = refl
+    back file.Length = refl
+    back file.Header = refl
+    back file.Room = refl
+    back (file.Marked f) = refl
+    back (file.Off x bits f) = refl

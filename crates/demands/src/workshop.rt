@@ -7,9 +7,11 @@ use track::Outcome;
 use track_stl::write_skin;
 ghost use mathlib.Core.Path.{_≡_};
 ghost use lib.Dec.{eqb};
+ghost use Rattle.rules.specs.Stl.{writeFacets, readFile};
 ghost use Rattle.stl.specs.Writing as writing;
 ghost use Rattle.stl.specs.Reading as reading;
 ghost use Rattle.track.specs.Outcomes.{lent};
+ghost use Rattle.demands.specs.Settled.{writingAt, fileReadingAt};
 ghost use Rattle.demands.specs.Workshop.{WrittenRead, ReadWritten, SkinFile};
 
 fn is_done(answer: Writing) -> bool
@@ -34,6 +36,19 @@ fn is_read(answer: Reading) -> bool
         Reading::Marked(_) => false,
         Reading::Off(_, _, _) => false,
     }
+}
+
+// The one result of each of the two calls (specs/Settled.antt).
+pub(crate) fn facets_written(units: &[i16], file: &mut [u8]) -> Writing
+    ensures { λ r. ⌜ (r ≡ writingAt (writeFacets (now (units .entry)) (now (file .entry)) .verdict)) × (now (file .exit) ≡ writeFacets (now (units .entry)) (now (file .entry)) .left) ⌝ }
+{
+    write_facets(units, file)
+}
+
+pub(crate) fn file_read(file: &[u8], units: &mut [i16]) -> Reading
+    ensures { λ r. ⌜ (r ≡ fileReadingAt (readFile (now (file .entry)) (now (units .entry)))) × (now (units .exit) ≡ readFile (now (file .entry)) (now (units .entry)) .left) ⌝ }
+{
+    read_file(file, units)
 }
 
 // Writes a list of units, and reads the file back.
