@@ -59,10 +59,11 @@ module _ (at : ℕ → Point) where
   abbrev of : ℕ → List ℤ
   of v = coordinates (at v)
 
-  three : (ids : List ℕ) → length (flatten (map of ids)) ≡ 3 * length ids
+  -- three for each id
+  pub three-units : (ids : List ℕ) → length (flatten (map of ids)) ≡ 3 * length ids
   unfolding flatten coordinates
-  three [] = refl
-  three (v ∷ ids) = length-append (of v) (flatten (map of ids)) ∙ omega (arith, three ids)
+  three-units [] = refl
+  three-units (v ∷ ids) = length-append (of v) (flatten (map of ids)) ∙ omega (arith, three-units ids)
 
   -- coordinate c of id i
   unit-at : (ids : List ℕ) (i c : ℕ) → i < length ids → c < 3 → getD (flatten (map of ids)) (3 * i + c) (pos 0) ≡ getD (of (getD ids i 0)) c (pos 0)
@@ -100,7 +101,7 @@ module _ (at : ℕ → Point) where
   triangles-file triangles n long words same =
       let ids = flatten triangles in
       let units = flatten (map of ids) in
-      let count : length units / 9 ≡ n = omega (arith, three ids) in
+      let count : length units / 9 ≡ n = omega (arith, three-units ids) in
       ap (λ (x : List ℕ). header ++ (bytesOf 4 n ++ x))
       (gather-same n (triangleFacet at words) (λ k. facetBytes units (9 * k)) (λ k l.
       rw (same (3 * k) (omega arith), same (3 * k + 1) (omega arith), same (3 * k + 2) (omega arith)) (sym (facet-units ids k (omega arith)))))

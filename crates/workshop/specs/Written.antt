@@ -3,11 +3,11 @@ use mathlib.Core.Path.{_≡_, refl, sym, ap, _∙_, subst}
 use mathlib.Core.Logic.{_≢_}
 use mathlib.Core.Bool.{Bool, true, false, cond}
 use mathlib.Core.Option.{Option, some, none}
-use mathlib.Core.List.{List, [], _∷_, map, flatten}
-use Prim.Native.Nat.{ℕ, _*_, _≤_}
+use mathlib.Core.List.{List, [], _∷_, flatten}
+use Prim.Native.Nat.{ℕ, _≤_}
 use native.Mathlib.Omega.{arith}
 use lib.Dec.{eqb}
-use lib.ListN.{length, take, replicate, length-replicate, length-append}
+use lib.ListN.{length, take, replicate, length-replicate}
 use borrow.Author.Tests.{eqb-true, eq-eqb, ne-eqb}
 use Rattle.rules.specs.Below.{found}
 use Rattle.rules.specs.First.{given, Verdict, firstMatch}
@@ -15,7 +15,7 @@ use Rattle.rules.specs.Points.{Point, pointIn}
 use Rattle.rules.specs.Outward.{triangleAs}
 use Rattle.rules.specs.Proposals.{insideIn}
 use Rattle.rules.specs.Job.{Form, track, headerOf, hasPoints, pointBytes, pointsAt, section, pointsOf, jobOf, finalOf, Lent, written, Result, run}
-use Rattle.rules.specs.Stl.{mostFacets, fileLength, facetsOf, fileOf, coordinates, cornersOf, outwardSkin, skinFile, fileTests, unwritten, Exported, exported, writeSkin}
+use Rattle.rules.specs.Stl.{mostFacets, fileLength, facetsOf, fileOf, cornersOf, outwardSkin, skinFile, fileTests, unwritten, Exported, exported, writeSkin}
 use Rattle.rules.specs.Laws.Truth.{not-both, is-true}
 use Rattle.rules.specs.Laws.First.{match-here}
 use Rattle.rules.specs.Laws.Job.{job-corners}
@@ -25,6 +25,7 @@ use Rattle.rules.specs.Reading.Outward.{three-each}
 use Rattle.rules.specs.Reading.Small.{triangles-small}
 use Rattle.track.specs.declared.Outcome.{Outcome}
 use Rattle.track.specs.Outcomes.{lent, result}
+use Rattle.track_stl.specs.Corners.{three-units}
 use Rattle.track_stl.specs.Ran.{told, triangles-told}
 use Rattle.lines.specs.Listing.{line, wordRefused, refusedText, zeros}
 use Rattle.lines.specs.Long.{front-long, long-code, run-enough}
@@ -94,11 +95,6 @@ module _ (f : Form) (bytes : List ℕ) (buffers : Lent) where
 
 -- ---- how long its file is
 
-three : (at : ℕ → Point) (ids : List ℕ) → length (flatten (map (λ v. coordinates (at v)) ids)) ≡ 3 * length ids
-unfolding flatten coordinates
-three at [] = refl
-three at (v ∷ ids) = length-append (coordinates (at v)) (flatten (map (λ u. coordinates (at u)) ids)) ∙ omega (arith, three at ids)
-
 module _ (bytes : List ℕ) where
   abbrev count : ℕ
   count = length (outwardSkin (jobOf track bytes))
@@ -110,7 +106,7 @@ module _ (bytes : List ℕ) where
       let points = jobOf track bytes .points in
       omega (
         arith,
-        three at (flatten (outwardSkin (jobOf track bytes))),
+        three-units at (flatten (outwardSkin (jobOf track bytes))),
         skin-words t (insideIn (finalOf (jobOf track bytes))) (triangleAs t true points) (three-each t true points (job-corners track bytes)),
       )
 

@@ -10,7 +10,7 @@ use lib.IntN.{ℤ}
 use lib.ListN.{length, getD, take, length-append}
 use lib.Seq.{getD-take, ext-getD, length-take-le}
 use borrow.Author.Tests.{eqb-true, eq-eqb}
-use Rattle.rules.specs.Below.{gather, all}
+use Rattle.rules.specs.Below.{gather}
 use Rattle.rules.specs.Words.{bytesOf}
 use Rattle.rules.specs.Stl.{header, headed, facetBytes, fileLength, facetsOf, fileOf}
 use Rattle.rules.specs.Laws.Below.{all-each, each-all}
