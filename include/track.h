@@ -318,8 +318,8 @@ void track_run(const uint8_t *job, size_t job_len,
  * 20 or 21 if it has no points or file is too short, and else 0 and the counts
  * of track_run. With 20 and 21 the place and both counts are zero. In each case
  * answers, final_marks, triangles and work are left as track_run leaves them:
- * with 20 and 21 as with its code 0, and triangles in the order that word 7 asks
- * for.
+ * with 20 and 21 as with its code 0, and triangles in the order that word 7
+ * asks for.
  *
  * file         TRACK_STL_LEN bytes, of the number of triangles. That number is
  *              known after the run; TRACK_STL_LEN(2 * N) bytes are enough. Code

@@ -151,9 +151,6 @@ fault-is : (bytes : List ℕ) (f : ℕ) → facetFault bytes f ≡ cond (blank b
 unfolding facetFault
 fault-is bytes f = ap (λ (x : Fault). cond (blank bytes f) x Marked) (numbers-first bytes f)
 
-differ : {A : Type 0} → _≡_ {A = ℕ} 0 1 → A
-differ e = absurd (omega arith)
-
 -- some number passes exactly if a lowest one does
 any-lowest : (n : ℕ) (p : ℕ → Bool) (o : Option ℕ) → lowest n p ≡ o → any n p ≡ elim o [ some k ↦ true | none ↦ false ]
 any-lowest n p (some k) e = let low = lowest-is n p k e in any-here n p k (low .below) (low .passes)

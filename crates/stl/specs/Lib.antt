@@ -6,7 +6,6 @@
 --     Faults   what is wrong with a number, a corner and a facet
 --     Reading  the reader's answer, as `rules` has it
 --     Search   the search for the first facet at fault
---     Accepted a file of the right length, and a file that is read
 --     Units    the units that a number says, and units that are written one by one
 pub mod Header
 pub mod Corners
@@ -15,5 +14,4 @@ pub mod Writing
 pub mod Faults
 pub mod Reading
 pub mod Search
-pub mod Accepted
 pub mod Units

@@ -15,6 +15,7 @@ use Rattle.rules.specs.Stl.{countIn, illSized, headed, faulty, firstFault, mark
 use Rattle.rules.specs.Laws.Truth.{not-both}
 use Rattle.rules.specs.Laws.First.{match-here, match-later, match-end}
 use Rattle.rules.specs.Laws.Below.{Lowest, lowest-is}
+use Rattle.trips.specs.Readable.{Readable, read-exactly, read-whole, read-verdict}
 use Rattle.stl.specs.Faults.{facetFault, Astray, fault-told}
 use Rattle.stl.specs.declared.reader.Fault.{Fault}
 use Rattle.stl.specs.declared.reader.Fault.the-variants as fault
@@ -122,3 +123,12 @@ module _ (bytes : List ℕ) (lent : List ℤ) where
       go false p true q true r o s = by (match-later 1 _ _ (rw p) ∙ match-later 2 _ _ (rw q) ∙ match-here 3 _ _ 0 (rw r))
       go false p true q false r (some f) s = at-fault p q r f s (facetFault bytes f) refl
       go false p true q false r none s = no-fault p q r s
+
+  -- ---- what is read: the files that are taken, and all their facets
+
+  pub facets-readable : (facets : ℕ) → reading bytes (length lent) ≡ Facets facets → Readable bytes (length lent) × (facets ≡ countIn bytes)
+  unfolding leftBy verdictOf facetsIn
+  facets-readable facets e =
+      let is = told-reading (sym e) refl in
+      let taken = read-exactly bytes (length lent) .0 (ap (λ (v : Verdict). v .code) (sym (read-verdict bytes lent)) ∙ ap (λ (r : Read). r .verdict .code) (sym is)) in
+      (taken, ap (λ (r : Read). r .facets) (is ∙ read-whole bytes lent taken))

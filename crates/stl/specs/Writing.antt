@@ -1,5 +1,5 @@
 -- The facet writer's answer, as `rules` has it.
-use mathlib.Core.Path.{_≡_, refl, ap, _∙_}
+use mathlib.Core.Path.{_≡_, refl, sym, ap, _∙_}
 use mathlib.Core.Bool.{Bool, true, false, not, _||_, cond}
 use mathlib.Core.List.{List, [], _∷_}
 use mathlib.Core.Option.{Option, some, none}
@@ -8,14 +8,13 @@ use native.Mathlib.Omega.{arith}
 use lib.Dec.{ltb, eqb}
 use lib.IntN.{ℤ, pos}
 use lib.ListN.{length, getD}
-use borrow.Author.Tests.{ltb-false, not-false}
 use Rattle.rules.specs.Below.{found, lowest}
 use Rattle.rules.specs.First.{given, Verdict, firstMatch}
 use Rattle.rules.specs.Points.{inRange}
 use Rattle.rules.specs.Job.{written}
 use Rattle.rules.specs.Stl.{mostFacets, fileLength, facetsOf, fileOf, writeTests, Wrote, writeFacets}
-use Rattle.rules.specs.Laws.Truth.{or-no-second}
-use Rattle.rules.specs.Laws.Below.{lowest-none}
+use Rattle.rules.specs.Reading.Points.{range-reads}
+use Rattle.trips.specs.Writable.{Writable, wrote-exactly}
 use Rattle.stl.specs.Corners.{Numbers, cornerIn, grid-numbers}
 use Rattle.stl.specs.declared.writer.Writing.{Writing}
 use Rattle.stl.specs.declared.writer.Writing.the-variants.{Done, Facets, Number, Room}
@@ -79,31 +78,16 @@ told-writing units lent {a} is {left} e =
     ap (told a) (e ∙ left-by-code a units lent)
     ∙ ap (λ (w : Verdict). record { verdict = w; left = cond (eqb (w .code) 0) (written (fileOf units) lent) lent }) (ap verdictOf is ∙ v)
 
--- ---- what may be written
+-- ---- what may be written: the lists that are taken
 
-pub record Writable (units : List ℤ) (room : ℕ) : Type 0 where
-  pub few : facetsOf units ≤ mostFacets
-  pub in-range : AllIn units
-  pub roomy : fileLength (facetsOf units) ≤ room
+pub done-writable : (units : List ℤ) (room : ℕ) → writing units room ≡ Done → Writable units room
+unfolding writing writeTests verdictOf
+done-writable units room e =
+    let v = first-match (not (eqb (length units % 9) 0) || ltb mostFacets (facetsOf units)) (lowest (length units) (strayIn units)) (ltb room (fileLength (facetsOf units))) in
+    wrote-exactly units room .0 (ap (λ (w : Verdict). w .code) (sym v) ∙ ap (λ (w : Writing). verdictOf w .code) e)
 
-differ : {A : Type 0} → _≡_ {A = ℕ} 0 1 → A
-differ e = absurd (omega arith)
-
-pub writable : (units : List ℤ) (room : ℕ) → writing units room ≡ Done → Writable units room
-unfolding writing strayed
-writable units room e =
-    go (not (eqb (length units % 9) 0) || ltb mostFacets (facetsOf units)) refl (lowest (length units) (strayIn units)) refl (ltb room (fileLength (facetsOf units))) refl e
-  where
-    go : (bad : Bool) → (not (eqb (length units % 9) 0) || ltb mostFacets (facetsOf units)) ≡ bad → (stray : Option ℕ) → lowest (length units) (strayIn units) ≡ stray
-        → (short : Bool) → ltb room (fileLength (facetsOf units)) ≡ short → cond bad Facets (strayed stray (cond short Room Done)) ≡ Done → Writable units room
-    go true p stray q short r e = differ (cc)
-    go false p (some k) q short r e = differ (cc)
-    go false p none q true r e = differ (cc)
-    go false p none q false r e = record {
-      few = ltb-false mostFacets (facetsOf units) (or-no-second (not (eqb (length units % 9) 0)) (ltb mostFacets (facetsOf units)) p);
-      in-range = λ k l. not-false (inRange (getD units k (pos 0))) (lowest-none (length units) (strayIn units) q k l);
-      roomy = ltb-false room (fileLength (facetsOf units)) r;
-    }
+pub all-in : {units : List ℤ} {room : ℕ} → Writable units room → AllIn units
+all-in {units} w k l = range-reads (getD units k (pos 0)) .1 (w .on k l)
 
 -- three units of the list are no NaNs
 pub numbers-in : (units : List ℤ) → AllIn units → (from : ℕ) → from + 3 ≤ length units → Numbers (cornerIn units from)

@@ -52,7 +52,7 @@ sound-exactly bytes f = (
 )
 
 -- the length is what the count asks for, so never under 84
-sized-exactly : (bytes : List ℕ) → (illSized bytes ≡ false) ↔ ((length bytes ≡ fileLength (countIn bytes)) × (countIn bytes ≤ mostFacets))
+pub sized-exactly : (bytes : List ℕ) → (illSized bytes ≡ false) ↔ ((length bytes ≡ fileLength (countIn bytes)) × (countIn bytes ≤ mostFacets))
 unfolding illSized
 sized-exactly bytes =
     let short = ltb (length bytes) 84 in

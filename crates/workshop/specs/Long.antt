@@ -9,14 +9,14 @@ use lib.ListN.{length, take}
 use lib.Seq.{length-take-le}
 use Rattle.rules.specs.Stl.{mostFacets, fileLength, illSized, readFile}
 use Rattle.rules.specs.Laws.Truth.{is-true}
-use Rattle.stl.specs.Accepted.{sized}
+use Rattle.trips.specs.Readable.{sized-exactly}
 use Rattle.stl.specs.Reading.{reading, leftBy, verdictOf, told, told-reading}
 use Rattle.stl.specs.declared.reader.Reading.the-variants.{Length}
 use Rattle.workshop.specs.Said.{zeros, fileRefused, fileSaid}
 
 module _ (bytes : List ℕ) (long : fileLength mostFacets < length bytes) where
   ill-sized : illSized bytes ≡ true
-  ill-sized = is-true (illSized bytes) (λ f. let s = sized bytes f in omega (arith, s .few, s .whole))
+  ill-sized = is-true (illSized bytes) (λ f. let (sized, few) = sized-exactly bytes .0 f in omega (arith, sized, few))
 
   -- it is refused for its length
   pub long-refused : (lent : List ℤ) → told Length lent ≡ readFile bytes lent

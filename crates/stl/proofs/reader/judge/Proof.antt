@@ -4,8 +4,9 @@ use Prim.Native.Nat.{ℕ, _*_, _≤_, _<_}
 use native.Mathlib.Omega.{arith}
 use borrow.Author.Needs.{needs}
 use borrow.Author.Tests.{lt-ltb, le-ltb, not-true, not-false}
-use Rattle.rules.specs.Stl.{countIn, illSized, headed}
-use Rattle.stl.specs.Accepted.{Sized, sized}
+use lib.ListN.{length}
+use Rattle.rules.specs.Stl.{mostFacets, fileLength, countIn, illSized, headed}
+use Rattle.trips.specs.Readable.{sized-exactly}
 use Rattle.stl.specs.Reading.{reading}
 use Rattle.stl.proofs.reader.judge.Statement.{statement}
 use Rattle.stl.proofs.reader.judge.Tie as tie
@@ -13,8 +14,8 @@ use Rattle.stl.proofs.reader.judge.Tie as tie
 well-sized : (c : tie.Else1) → illSized (c .before .before .before .args .file .now) ≡ false
 well-sized c = sym (c .before .is-ill-sized .ensures) ∙ c .if1 .left
 
-right : (c : tie.Else1) → Sized (c .before .before .before .args .file .now)
-right c = sized (c .before .before .before .args .file .now) (well-sized c)
+right : (c : tie.Else1) → let file = c .before .before .before .args .file .now in (length file ≡ fileLength (countIn file)) × (countIn file ≤ mostFacets)
+right c = sized-exactly (c .before .before .before .args .file .now) .0 (well-sized c)
 
 well-headed : (c : tie.Else2) → headed (c .before .before .before .before .before .args .file .now) ≡ true
 well-headed c = sym (c .before .is-headed .ensures) ∙ not-false _ (c .if2 .left)
@@ -28,14 +29,14 @@ unfolding reading
 returns c = rw (sym (c .before .is-ill-sized .ensures) ∙ c .if1 .taken)
 
 is-headed-requires : tie.Need-is-headed-requires
-is-headed-requires c κs = omega (arith, right c .least)
+is-headed-requires c κs = omega (arith, right c .0)
 
 returns-2 : tie.Need-returns-2
 unfolding reading
 returns-2 c = rw (well-sized (c .before .before), sym (c .before .is-headed .ensures) ∙ not-true _ (c .if2 .taken))
 
 word-at-requires : tie.Need-word-at-requires
-word-at-requires c κs = omega (arith, right (c .before .before) .least)
+word-at-requires c κs = omega (arith, right (c .before .before) .0)
 
 returns-3 : tie.Need-returns-3
 unfolding reading
@@ -47,7 +48,7 @@ look-through-requires : tie.Need-look-through-requires
 look-through-requires c κs =
     let file-right = right (c .before .before .before .before) in
     let count = counted (c .before) in
-    (omega (arith, file-right .whole), omega (arith, file-right .few), count)
+    (omega (arith, file-right .0), omega (arith, file-right .1), count)
 
 returns-4 : tie.Need-returns-4
 unfolding reading

@@ -6,8 +6,7 @@ use lib.IntN.{ℤ}
 use lib.ListN.{length}
 use borrow.Author.Needs.{needs}
 use Rattle.rules.specs.Stl.{readFile}
-use Rattle.stl.specs.Accepted.{accepted}
-use Rattle.stl.specs.Reading.{told, reading, leftBy, told-reading}
+use Rattle.stl.specs.Reading.{told, reading, leftBy, told-reading, facets-readable}
 use Rattle.stl.specs.declared.reader.Reading.{Reading}
 use Rattle.stl.proofs.reader.read_file.Statement.{statement}
 use Rattle.stl.proofs.reader.read_file.Tie as tie
@@ -15,8 +14,8 @@ use Rattle.stl.proofs.reader.read_file.Tie as tie
 put-units-requires : tie.Need-put-units-requires
 put-units-requires c κs =
     let at = c .before .before in let start = at .before .before .before .before in
-    let a = accepted (start .args .file .now) (length (start .args .units .now)) (at .answer .given .0 .0) (sym (at .before .before .judge .ensures) ∙ at .answer .given .1) in
-    (omega (arith, a .right .whole, a .all), omega (arith, a .right .few, a .all), a .all, omega (arith, a .roomy, a .all))
+    let (taken, all) = facets-readable (start .args .file .now) (start .args .units .now) (at .answer .given .0 .0) (sym (at .before .before .judge .ensures) ∙ at .answer .given .1) in
+    (omega (arith, taken .long, all), omega (arith, taken .few, all), all, omega (arith, taken .roomy, all))
 
 -- an answer that leaves the lent units as they are
 untouched : (file : List ℕ) (lent : List ℤ) {a b : Reading} → a ≡ reading file (length lent) → a ≡ b → leftBy b file lent ≡ lent → told a lent ≡ readFile file lent

@@ -1,7 +1,7 @@
 use mathlib.Core.Path.{_≡_, refl, sym, ap, _∙_}
 use lib.ListN.{length}
 use Rattle.rules.specs.Stl.{writeFacets}
-use Rattle.stl.specs.Writing.{told, leftBy, told-writing, Writable, writable}
+use Rattle.stl.specs.Writing.{told, leftBy, told-writing, done-writable, all-in}
 use Rattle.stl.specs.declared.writer.Writing.{Writing}
 use borrow.Author.Needs.{needs}
 use Rattle.stl.proofs.writer.write_facets.Statement.{statement}
@@ -11,8 +11,8 @@ put-file-requires : tie.Need-put-file-requires
 put-file-requires c κs =
     let at = c .before .before .before in
     let start = at .before .before in
-    let w = writable (start .args .units .now) (length (start .args .file .now)) (sym (at .judge .ensures) ∙ c .before .enum-told .given .1) in
-    (w .roomy, w .few, w .in-range)
+    let w = done-writable (start .args .units .now) (length (start .args .file .now)) (sym (at .judge .ensures) ∙ c .before .enum-told .given .1) in
+    (w .roomy, w .few, all-in w)
 
 returns : tie.Need-returns
 unfolding leftBy
