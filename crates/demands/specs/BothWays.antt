@@ -7,7 +7,7 @@ use mathlib.Core.Option.{Option}
 use Prim.Native.Nat.{ℕ, _*_, _≤_, _<_}
 use native.Mathlib.Omega.{arith}
 use lib.Dec.{eqb}
-use lib.Ieee.{Float, div, ofInt, ofBits, toBits}
+use lib.Ieee.{Float, binary32, div, ofInt, ofBits, toBits, nanBits}
 use lib.IntN.{ℤ}
 use lib.ListN.{length, getD, take}
 use borrow.Author.Tests.{eqb-true, eq-eqb, ne-eqb}
@@ -18,13 +18,14 @@ use Rattle.rules.specs.Laws.Truth.{not-both}
 use Rattle.rules.specs.Laws.Written.{written-length}
 use Rattle.rules.specs.Laws.Stl.{file-length}
 use Rattle.rules.specs.Reading.Points.{range-reads}
-use Rattle.grid.specs.Exact.{exact}
-use Rattle.grid.specs.Named.{units-exactly}
+use Rattle.grid.specs.Exact.{exact, comes-back}
+use Rattle.grid.specs.Named.{units-exactly, off}
 use Rattle.trips.specs.Writable.{wrote-whole}
 use Rattle.trips.specs.Readable.{read-whole, read-verdict}
 use Rattle.trips.specs.Forth.{file-count, file-readable, file-units}
 use Rattle.trips.specs.Back.{units-length, units-file, units-writable}
 use Rattle.trips.specs.Trips.{Writable, wrote-exactly, Readable, read-exactly, wrote-front, read-front}
+use Rattle.trips.specs.Worked.{minus-zero-off, infinity-off, minus-infinity-off}
 use Rattle.demands.specs.Workshop.{Numbers, Filled, WrittenRead, ReadWritten}
 
 abbrev wrote : Verdict → List ℕ → Wrote
@@ -44,6 +45,9 @@ numbers = record {
       let (names, named) = units-exactly bits u in
       let (reads, read) = range-reads u in
       (λ x. let (on, e) = names x in (reads on, e), λ (on, e). named (read on, e));
+  minus-zero-off = minus-zero-off;
+  nan-off = λ bits nan. off bits (λ u (on, e). not-both nan (ap (nanBits binary32) e ∙ comes-back u on .number));
+  infinities-off = (infinity-off, minus-infinity-off);
 }
 
 -- ---- each call by itself: it is accepted exactly if its list or its file is one that is taken, and fills its buffer then

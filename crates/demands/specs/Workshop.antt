@@ -7,6 +7,7 @@ use mathlib.Core.List.{List, flatten}
 use Prim.Native.Nat.{ℕ, _+_, _*_, _≤_, _<_}
 use lib.IntN.{ℤ, pos, natAbs}
 use lib.ListN.{length, getD, take}
+use lib.Ieee.{binary32, nanBits}
 use lib.Ieee.Exact.{HasValue}
 use Rattle.rules.specs.Points.{Point, belowZero}
 use Rattle.rules.specs.Job.{track, headerOf, Job, jobOf, finalOf, skinWith, Lent, written, Result, run}
@@ -27,6 +28,10 @@ pub record Numbers : Type 0 where
   pub zero-positive : bitsOf (pos 0) ≡ 0
   -- bits name a number of the grid exactly if they are the ones that are written for it; all others are off the grid
   pub named : (bits : ℕ) (u : ℤ) → ((bitsOff bits ≡ false) × (unitsOf bits ≡ u)) ↔ (InRange u × (bits ≡ bitsOf u))
+  -- negative zero, every NaN and both infinities are off it
+  pub minus-zero-off : bitsOff 0x8000_0000 ≡ true
+  pub nan-off : (bits : ℕ) → nanBits binary32 bits ≡ true → bitsOff bits ≡ true
+  pub infinities-off : (bitsOff 0x7f80_0000 ≡ true) × (bitsOff 0xff80_0000 ≡ true)
 
 -- a call's output buffer: a refused call leaves it unchanged, and an accepted one changes only the front that it fills
 abbrev pub Filled {ℓ} : {A : Type ℓ} → Type 0 → List A → List A → List A → Type ℓ
