@@ -3,14 +3,12 @@ use mathlib.Core.Path.{_≡_, refl, sym, ap, ap₂, _∙_, subst}
 use mathlib.Core.Logic.{_↔_, _⊎_, inl, inr, ⊎-elim, _≢_}
 use mathlib.Core.Bool.{Bool, true, false}
 use mathlib.Core.Option.{some, none}
-use mathlib.Core.List.{List, [], _∷_, _++_, map, flatten, append-nil, append-assoc}
+use mathlib.Core.List.{List, [], _++_, map, flatten, append-nil}
 use Prim.Native.Nat.{ℕ, zero, suc, _+_, _*_, _/_, _%_, _≤_, _<_}
-use native.Mathlib.Nat.{not-suc-le-zero, le-of-suc-le-suc}
 use native.Mathlib.Omega.{arith}
 use lib.Dec.{ltb}
 use lib.IntN.{ℤ, pos}
-use lib.ListN.{length, getD, take, drop, length-append, List·getD-append}
-use lib.Seq.{getD-append-add}
+use lib.ListN.{length, getD, take, drop}
 use borrow.Author.Tests.{ne-eqb, ltb-true, ltb-false, lt-ltb, le-ltb}
 use Rattle.rules.specs.Below.{found}
 use Rattle.rules.specs.First.{given, Verdict, firstMatch}
@@ -34,6 +32,7 @@ use Rattle.job.specs.Reading.{header}
 use Rattle.track.specs.declared.Outcome.{Outcome}
 use Rattle.track.specs.Outcomes.{result}
 use Rattle.track.specs.Accepted.{job-accepted, job-closed, place-is}
+use Rattle.track_stl.specs.Corners.{three-units, unit-before, unit-at}
 use Rattle.track_stl.specs.Ran.{told, outward-few, ran-is, triangles-told}
 use Rattle.trips.specs.Trips.{Writable, wrote-exactly, wrote-front, write-read}
 use Rattle.demands.specs.Workshop.{cornerIn, HasPoints, needed, Written, SkinFile}
@@ -46,22 +45,6 @@ module _ (at : ℕ → Point) where
   abbrev of : ℕ → List ℤ
   of v = coordinates (at v)
 
-  three : (ids : List ℕ) → length (flatten (map of ids)) ≡ 3 * length ids
-  unfolding flatten coordinates
-  three [] = refl
-  three (v ∷ ids) = length-append (of v) (flatten (map of ids)) ∙ omega (arith, three ids)
-
-  -- coordinate c of id i, whatever stands behind them
-  unit-at : (ids : List ℕ) (rest : List ℤ) (i c : ℕ) → i < length ids → c < 3 → getD (flatten (map of ids) ++ rest) (3 * i + c) (pos 0) ≡ getD (of (getD ids i 0)) c (pos 0)
-  unfolding flatten coordinates
-  unit-at [] rest i c l m = absurd (not-suc-le-zero l)
-  unit-at (v ∷ ids) rest zero c l m =
-      let first : 3 * 0 + c ≡ c = omega arith in
-      rw (append-assoc (of v) (flatten (map of ids)) rest, first) (List·getD-append (of v) (flatten (map of ids) ++ rest) (pos 0) c m)
-  unit-at (v ∷ ids) rest (suc i) c l m =
-      let later : 3 * suc i + c ≡ length (of v) + (3 * i + c) = omega arith in
-      rw (append-assoc (of v) (flatten (map of ids)) rest, later, getD-append-add (of v) (flatten (map of ids) ++ rest) (3 * i + c) (pos 0)) (unit-at ids rest i c (le-of-suc-le-suc l) m)
-
   corner-at : (ids : List ℕ) (rest : List ℤ) (k j : ℕ) → 3 * k + j < length ids → cornerIn (flatten (map of ids) ++ rest) k j ≡ at (listedId ids k j)
   unfolding coordinates
   corner-at ids rest k j l =
@@ -69,7 +52,7 @@ module _ (at : ℕ → Point) where
       let zeroth : 9 * k + 3 * j ≡ 3 * i + 0 = omega arith in
       let first : 9 * k + 3 * j + 1 ≡ 3 * i + 1 = omega arith in
       let second : 9 * k + 3 * j + 2 ≡ 3 * i + 2 = omega arith in
-      rw (first, second, zeroth, unit-at ids rest i 0 l (omega arith), unit-at ids rest i 1 l (omega arith), unit-at ids rest i 2 l (omega arith))
+      rw (first, second, zeroth, unit-before at ids rest i 0 l (omega arith), unit-before at ids rest i 1 l (omega arith), unit-before at ids rest i 2 l (omega arith))
 
 coordinate-on : (p : Point) → OnGrid p → (c : ℕ) → c < 3 → InRange (getD (coordinates p) c (pos 0))
 unfolding coordinates
@@ -101,7 +84,7 @@ module _ (bytes : List ℕ) (before : Lent) (file : List ℕ) {o : Outcome} {aft
 
   units-long : length units ≡ 9 * o .triangles
   unfolding cornersOf
-  units-long = omega (arith, three at listed, ids-long)
+  units-long = omega (arith, three-units at listed, ids-long)
 
   facets-are : facetsOf units ≡ o .triangles
   unfolding facetsOf
@@ -138,7 +121,7 @@ module _ (bytes : List ℕ) (before : Lent) (file : List ℕ) {o : Outcome} {aft
       let below : i / 3 < length listed = omega (arith, units-long, ids-long) in
       let split : 3 * (i / 3) + i % 3 ≡ i = omega arith in
       subst InRange
-      (sym (unit-at at listed [] (i / 3) (i % 3) below (omega arith)) ∙ ap₂ (λ (xs : List ℤ) (n : ℕ). getD xs n (pos 0)) (append-nil units) split)
+      (sym (unit-at at listed (i / 3) (i % 3) below (omega arith)) ∙ ap (λ (n : ℕ). getD units n (pos 0)) split)
       (coordinate-on (at (getD listed (i / 3) 0)) (point-on (i / 3) below) (i % 3) (omega arith))
 
   writable : Writable units (length file)

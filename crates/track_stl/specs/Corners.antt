@@ -1,7 +1,7 @@
 -- Corners at the points of ids, and facets of triangles.
 use mathlib.Core.Path.{_≡_, refl, sym, ap, _∙_}
 use mathlib.Core.Bool.{true, _&&_}
-use mathlib.Core.List.{List, [], _∷_, _++_, map, flatten}
+use mathlib.Core.List.{List, [], _∷_, _++_, map, flatten, append-assoc, append-nil}
 use Prim.Native.Nat.{ℕ, zero, suc, _+_, _*_, _/_, _≤_, _<_}
 use native.Mathlib.Nat.{not-suc-le-zero, le-of-suc-le-suc}
 use native.Mathlib.Omega.{arith}
@@ -65,14 +65,20 @@ module _ (at : ℕ → Point) where
   three-units [] = refl
   three-units (v ∷ ids) = length-append (of v) (flatten (map of ids)) ∙ omega (arith, three-units ids)
 
-  -- coordinate c of id i
-  unit-at : (ids : List ℕ) (i c : ℕ) → i < length ids → c < 3 → getD (flatten (map of ids)) (3 * i + c) (pos 0) ≡ getD (of (getD ids i 0)) c (pos 0)
+  -- coordinate c of id i, whatever stands behind them, and nothing
+  pub unit-before : (ids : List ℕ) (rest : List ℤ) (i c : ℕ) → i < length ids → c < 3 → getD (flatten (map of ids) ++ rest) (3 * i + c) (pos 0) ≡ getD (of (getD ids i 0)) c (pos 0)
   unfolding flatten coordinates
-  unit-at [] i c l m = absurd (not-suc-le-zero l)
-  unit-at (v ∷ ids) zero c l m = let first : 3 * 0 + c ≡ c = omega arith in rw first (List·getD-append (of v) (flatten (map of ids)) (pos 0) c m)
-  unit-at (v ∷ ids) (suc i) c l m =
+  unit-before [] rest i c l m = absurd (not-suc-le-zero l)
+  unit-before (v ∷ ids) rest zero c l m =
+      let first : 3 * 0 + c ≡ c = omega arith in
+      rw (append-assoc (of v) (flatten (map of ids)) rest, first) (List·getD-append (of v) (flatten (map of ids) ++ rest) (pos 0) c m)
+  unit-before (v ∷ ids) rest (suc i) c l m =
       let later : 3 * suc i + c ≡ length (of v) + (3 * i + c) = omega arith in
-      rw (later, getD-append-add (of v) (flatten (map of ids)) (3 * i + c) (pos 0)) (unit-at ids i c (le-of-suc-le-suc l) m)
+      rw (append-assoc (of v) (flatten (map of ids)) rest, later, getD-append-add (of v) (flatten (map of ids) ++ rest) (3 * i + c) (pos 0))
+      (unit-before ids rest i c (le-of-suc-le-suc l) m)
+
+  pub unit-at : (ids : List ℕ) (i c : ℕ) → i < length ids → c < 3 → getD (flatten (map of ids)) (3 * i + c) (pos 0) ≡ getD (of (getD ids i 0)) c (pos 0)
+  unit-at ids i c l m = ap (λ (units : List ℤ). getD units (3 * i + c) (pos 0)) (sym (append-nil (flatten (map of ids)))) ∙ unit-before ids [] i c l m
 
   -- three units from 3 i on are the corner at the point of id i
   corner-units : (ids : List ℕ) (i : ℕ) → i < length ids → (from : ℕ) → from ≡ 3 * i → cornerIn (flatten (map of ids)) from ≡ idCorner at ids i
