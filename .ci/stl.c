@@ -141,9 +141,9 @@ static void file_codes(uint32_t facets)
     reads_with(0, 'T', TRACK_STL_READ_CODE_HEADER, 0, 0, "another header");
     reads(stored_len, TRACK_STL_UNITS_LEN(facets) - 1, TRACK_STL_READ_CODE_ROOM,
           0, 0, 0, "short room for units");
-    reads_with(facet_1 + 11, 0x80, TRACK_STL_READ_CODE_MARKED, 1, 0,
+    reads_with(facet_1 + 11, 0x80, TRACK_STL_READ_CODE_NOT_ZERO, 1, 0,
                "a normal that is not zero");
-    reads_with(facet_1 + 49, 1, TRACK_STL_READ_CODE_MARKED, 1, 0,
+    reads_with(facet_1 + 49, 1, TRACK_STL_READ_CODE_NOT_ZERO, 1, 0,
                "last bytes that are not zero");
     memcpy(stored + facet_1 + 16, "\x01\x00\x80\x7f", 4);
     reads(stored_len, TRACK_MOST_STL_UNITS_LEN, TRACK_STL_READ_CODE_OFF, 1, 0,

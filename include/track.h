@@ -109,13 +109,14 @@ enum track_word_7 {
  *     at byte    there stand
  *     0          the ASCII text `track skin` in 10 bytes, then 70 bytes of zero
  *     80         the number of facets, a word of four bytes
- *     84 + 50f   facet f: its normal, 12 bytes of zero; its three corners, nine
+ *     84 + 50k   facet k: its normal, 12 bytes of zero; its three corners, nine
  *                numbers of four bytes; and two bytes of zero
  *
- * A number is an f32 (binary32 of IEEE 754), in metres: a coordinate in units,
- * divided by 16, which loses nothing. Zero is written positive. The grid is the
- * numbers of the whole units from -1023 to 1023; a negative zero, a NaN, an
- * infinity and every number between or beyond are off it.
+ * A number is an f32 (binary32 of IEEE 754), in metres, which the file itself
+ * does not say: a coordinate in units, divided by 16, which loses nothing. Zero
+ * is written positive. The grid is the numbers of the whole units from -1023 to
+ * 1023; a negative zero, a NaN, an infinity and every number between or beyond
+ * are off it.
  *
  * The normals are zero: which side is out is told by the order of the corners.
  * In the file of a job's skin each facet a, b, c is outward, also where word 7
@@ -209,7 +210,7 @@ enum track_stl_write_code {
                                         multiple of 9; or over 4,096 of them */
     TRACK_STL_WRITE_CODE_NUMBER = 2, /* a number outside -1023 to 1023; place:
                                         the index of the first such number in
-                                        the list */
+                                        the list, from 0 */
     TRACK_STL_WRITE_CODE_ROOM = 3    /* file_len is under TRACK_STL_LEN of the
                                         number of facets */
 };
@@ -237,9 +238,9 @@ enum track_stl_read_code {
     TRACK_STL_READ_CODE_HEADER = 2, /* the first 80 bytes are not as above */
     TRACK_STL_READ_CODE_ROOM = 3,   /* units_len is under TRACK_STL_UNITS_LEN of
                                        the number of facets */
-    TRACK_STL_READ_CODE_MARKED = 4, /* a facet whose normal or last two bytes
-                                       are not zero; place: that facet, counted
-                                       from 0 */
+    TRACK_STL_READ_CODE_NOT_ZERO = 4, /* a bit of a facet's normal, or of its
+                                         last two bytes, is not zero; place:
+                                         that facet, counted from 0 */
     TRACK_STL_READ_CODE_OFF = 5     /* a number off the grid; place: its facet.
                                        Of the facet's numbers the first off the
                                        grid is handed back */
@@ -284,7 +285,7 @@ extern "C" {
 /* Runs a job: checks its table, its marks and its points, answers its proposals
  * and lists the skin.
  *
- * A refusal leaves answers, final_marks and triangles as they were.
+ * A job that is refused leaves answers, final_marks and triangles as they were.
  *
  * job          the bytes of the file, only read
  * answers      TRACK_ANSWERS_LEN bytes. Code 0 leaves the P answers, an enum
@@ -315,16 +316,17 @@ void track_run(const uint8_t *job, size_t job_len,
  * the order of the list. The job needs points.
  *
  * A job that track_run refuses has the same outcome here. One that is run gets
- * 20 or 21 if it has no points or file is too short, and else 0 and the counts
- * of track_run. With 20 and 21 the place and both counts are zero. In each case
- * answers, final_marks, triangles and work are left as track_run leaves them:
- * with 20 and 21 as with its code 0, and triangles in the order that word 7
- * asks for.
+ * 20 if it has no points, else 21 if file is too short, and else 0 and the
+ * counts of track_run. With 20 and 21 the place and both counts are zero. In
+ * each case answers, final_marks, triangles and work are left as track_run
+ * leaves them: with 20 and 21 as with its code 0, and triangles in the order
+ * that word 7 asks for.
  *
- * file         TRACK_STL_LEN bytes, of the number of triangles. That number is
- *              known after the run; TRACK_STL_LEN(2 * N) bytes are enough. Code
- *              0 leaves the file at the front, and what stands behind it is not
- *              changed. Every other code leaves file as it was.
+ * file         TRACK_STL_LEN(triangles) bytes. How many triangles there are is
+ *              not known before, and not told with 21: TRACK_STL_LEN(2 * N)
+ *              bytes are always enough. Code 0 leaves the file at the front,
+ *              and what stands behind it is not changed. Every other code
+ *              leaves file as it was.
  *
  * The other parameters are those of track_run. */
 void track_stl_run(const uint8_t *job, size_t job_len,

@@ -150,14 +150,14 @@ writing-is w e = (sym (back w) ∙ ap (λ (x : Wrote). writingAt (x .verdict)) e
 
 -- a number off the grid with its bits, and its facet
 unfoldable pub offAt : Option (Float × ℕ) → ℕ → readerReading.Reading
-offAt none facet = file.Marked facet
+offAt none facet = file.NotZero facet
 offAt (some (x, bits)) facet = file.Off x bits facet
 
 unfoldable pub fileReadingAt : Read → readerReading.Reading
 fileReadingAt r =
     let v = r .verdict in
     cond (eqb (v .code) 1) file.Length (cond (eqb (v .code) 2) file.Header (cond (eqb (v .code) 3) file.Room
-    (cond (eqb (v .code) 4) (file.Marked (v .place)) (cond (eqb (v .code) 5) (offAt (r .off) (v .place)) (file.Facets (r .facets))))))
+    (cond (eqb (v .code) 4) (file.NotZero (v .place)) (cond (eqb (v .code) 5) (offAt (r .off) (v .place)) (file.Facets (r .facets))))))
 
 pub file-reading-is : (a : readerReading.Reading) {left : List ℤ} {r : Read} → stlReading.told a left ≡ r → (a ≡ fileReadingAt r) × (left ≡ r .left)
 unfolding fileReadingAt offAt stlReading.verdictOf stlReading.facetsIn stlReading.offIn
@@ -168,5 +168,5 @@ file-reading-is a {left} e = (sym (back a) ∙ ap fileReadingAt e, ap (λ (x : R
     back file.Length = refl
     back file.Header = refl
     back file.Room = refl
-    back (file.Marked f) = refl
+    back (file.NotZero f) = refl
     back (file.Off x bits f) = refl

@@ -33,7 +33,7 @@ fn is_read(answer: Reading) -> bool
         Reading::Length => false,
         Reading::Header => false,
         Reading::Room => false,
-        Reading::Marked(_) => false,
+        Reading::NotZero(_) => false,
         Reading::Off(_, _, _) => false,
     }
 }

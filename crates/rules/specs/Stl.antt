@@ -114,7 +114,7 @@ unitsOf bits = gridNumber (Option·getD (lowest 2047 (writtenFor bits)) gridMost
 unfoldable pub bitsAt : List ℕ → ℕ → ℕ → ℕ
 bitsAt bytes f k = word 4 bytes (numberAt f k)
 
--- the first facet at fault, and in a facet the first number off the grid
+-- facet f is at fault; the first that is; and its first number off the grid
 unfoldable pub faulty : List ℕ → ℕ → Bool
 faulty bytes f = not (blank bytes f) || any 9 (λ k. bitsOff (bitsAt bytes f k))
 
@@ -124,10 +124,10 @@ firstFault bytes = lowest (countIn bytes) (faulty bytes)
 unfoldable pub firstOff : List ℕ → ℕ → ℕ
 firstOff bytes f = bitsAt bytes f (Option·getD (lowest 9 (λ k. bitsOff (bitsAt bytes f k))) 0)
 
--- f, if its normal and its u16 are not zero
-unfoldable pub marked : List ℕ → Option ℕ → Option ℕ
-marked bytes none = none
-marked bytes (some f) = found (not (blank bytes f)) f
+-- f, if a bit of its normal or its u16 is not zero
+unfoldable pub notZero : List ℕ → Option ℕ → Option ℕ
+notZero bytes none = none
+notZero bytes (some f) = found (not (blank bytes f)) f
 
 unfoldable pub readTests : List ℕ → ℕ → List Test
 readTests bytes room =
@@ -138,7 +138,7 @@ readTests bytes room =
     -- 3: room for under nine numbers a facet
     ∷ (λ _. given (ltb room (9 * countIn bytes)))
     -- 4: normal bits or u16 not zero; 5: a number off the grid. The first facet at fault decides.
-    ∷ (λ _. marked bytes (firstFault bytes))
+    ∷ (λ _. notZero bytes (firstFault bytes))
     ∷ (λ _. firstFault bytes)
     ∷ []
 

@@ -19,7 +19,7 @@ use Rattle.grid.specs.Numbers.{read}
 use Rattle.grid.specs.declared.Number.{Number}
 use Rattle.grid.specs.declared.Number.the-variants as number
 use Rattle.stl.specs.declared.reader.Fault.{Fault}
-use Rattle.stl.specs.declared.reader.Fault.the-variants.{Sound, Marked, Off}
+use Rattle.stl.specs.declared.reader.Fault.the-variants.{Sound, NotZero, Off}
 
 unfoldable pub faultOf : Number → Fault
 faultOf (number.Units u) = Sound
@@ -28,7 +28,7 @@ faultOf (number.Off x bits facet) = Off x bits facet
 -- the first that is not sound
 unfoldable pub orFault : Fault → Fault → Fault
 orFault Sound other = other
-orFault Marked other = Marked
+orFault NotZero other = NotZero
 orFault (Off x bits facet) other = Off x bits facet
 
 abbrev pub numberFault : List ℕ → ℕ → ℕ → Fault
@@ -41,7 +41,7 @@ unfoldable pub facetFault : List ℕ → ℕ → Fault
 facetFault bytes f =
     cond (blank bytes f)
     (orFault (cornerFault bytes (facetAt f + 12) f) (orFault (cornerFault bytes (facetAt f + 24) f) (cornerFault bytes (facetAt f + 36) f)))
-    Marked
+    NotZero
 
 -- ---- a normal of three words and a u16 of two bytes
 
@@ -110,13 +110,13 @@ chain-first bytes f (suc n) rest =
 or-assoc : (a b c : Fault) → orFault (orFault a b) c ≡ orFault a (orFault b c)
 unfolding orFault
 or-assoc Sound b c = refl
-or-assoc Marked b c = refl
+or-assoc NotZero b c = refl
 or-assoc (Off x bits facet) b c = refl
 
 or-sound : (a : Fault) → orFault a Sound ≡ a
 unfolding orFault
 or-sound Sound = refl
-or-sound Marked = refl
+or-sound NotZero = refl
 or-sound (Off x bits facet) = refl
 
 nine : (a b c d e g h i j : Fault)
@@ -147,9 +147,9 @@ numbers-first bytes f =
 
 -- ---- what a fault of a facet says
 
-fault-is : (bytes : List ℕ) (f : ℕ) → facetFault bytes f ≡ cond (blank bytes f) (firstOr bytes f (lowest 9 (off bytes f)) Sound) Marked
+fault-is : (bytes : List ℕ) (f : ℕ) → facetFault bytes f ≡ cond (blank bytes f) (firstOr bytes f (lowest 9 (off bytes f)) Sound) NotZero
 unfolding facetFault
-fault-is bytes f = ap (λ (x : Fault). cond (blank bytes f) x Marked) (numbers-first bytes f)
+fault-is bytes f = ap (λ (x : Fault). cond (blank bytes f) x NotZero) (numbers-first bytes f)
 
 -- some number passes exactly if a lowest one does
 any-lowest : (n : ℕ) (p : ℕ → Bool) (o : Option ℕ) → lowest n p ≡ o → any n p ≡ elim o [ some k ↦ true | none ↦ false ]
@@ -167,14 +167,14 @@ pub record Astray (bytes : List ℕ) (f : ℕ) (x : Float) (bits facet : ℕ) : 
 module _ (bytes : List ℕ) (f : ℕ) where
   abbrev Told : Fault → Type 0
   Told Sound = faulty bytes f ≡ false
-  Told Marked = (blank bytes f ≡ false) × (faulty bytes f ≡ true)
+  Told NotZero = (blank bytes f ≡ false) × (faulty bytes f ≡ true)
   Told (Off x bits facet) = Astray bytes f x bits facet
 
   pub fault-told : {fault : Fault} → fault ≡ facetFault bytes f → Told fault
   unfolding faulty firstOff
   fault-told {fault} e = subst Told (sym (e ∙ fault-is bytes f)) (go (blank bytes f) refl (lowest 9 (off bytes f)) refl)
     where
-      go : (b : Bool) → blank bytes f ≡ b → (o : Option ℕ) → lowest 9 (off bytes f) ≡ o → Told (cond (blank bytes f) (firstOr bytes f (lowest 9 (off bytes f)) Sound) Marked)
+      go : (b : Bool) → blank bytes f ≡ b → (o : Option ℕ) → lowest 9 (off bytes f) ≡ o → Told (cond (blank bytes f) (firstOr bytes f (lowest 9 (off bytes f)) Sound) NotZero)
       go true p (some k) q = rw (p, q) (record {
         blank-is = p;
         faulty-is = rw (p, any-lowest 9 (off bytes f) (some k) q);

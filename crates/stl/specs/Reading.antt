@@ -11,7 +11,7 @@ use lib.Ieee.{Float}
 use Rattle.rules.specs.Below.{found}
 use Rattle.rules.specs.First.{given, Verdict, firstMatch}
 use Rattle.rules.specs.Job.{written}
-use Rattle.rules.specs.Stl.{countIn, illSized, headed, faulty, firstFault, marked, readTests, unitsIn, Read, handedBack, readFile}
+use Rattle.rules.specs.Stl.{countIn, illSized, headed, faulty, firstFault, notZero, readTests, unitsIn, Read, handedBack, readFile}
 use Rattle.rules.specs.Laws.Truth.{not-both}
 use Rattle.rules.specs.Laws.First.{match-here, match-later, match-end}
 use Rattle.rules.specs.Laws.Below.{Lowest, lowest-is}
@@ -20,7 +20,7 @@ use Rattle.stl.specs.Faults.{facetFault, Astray, fault-told}
 use Rattle.stl.specs.declared.reader.Fault.{Fault}
 use Rattle.stl.specs.declared.reader.Fault.the-variants as fault
 use Rattle.stl.specs.declared.reader.Reading.{Reading}
-use Rattle.stl.specs.declared.reader.Reading.the-variants.{Facets, Length, Header, Room, Marked, Off}
+use Rattle.stl.specs.declared.reader.Reading.the-variants.{Facets, Length, Header, Room, NotZero, Off}
 
 -- code and place of an answer
 unfoldable pub verdictOf : Reading → Verdict
@@ -28,7 +28,7 @@ verdictOf (Facets n) = record { code = 0; place = 0 }
 verdictOf Length = record { code = 1; place = 0 }
 verdictOf Header = record { code = 2; place = 0 }
 verdictOf Room = record { code = 3; place = 0 }
-verdictOf (Marked f) = record { code = 4; place = f }
+verdictOf (NotZero f) = record { code = 4; place = f }
 verdictOf (Off x bits f) = record { code = 5; place = f }
 
 -- how many facets were read
@@ -37,7 +37,7 @@ facetsIn (Facets n) = n
 facetsIn Length = 0
 facetsIn Header = 0
 facetsIn Room = 0
-facetsIn (Marked f) = 0
+facetsIn (NotZero f) = 0
 facetsIn (Off x bits f) = 0
 
 -- the number off the grid and its bits
@@ -46,7 +46,7 @@ offIn (Facets n) = none
 offIn Length = none
 offIn Header = none
 offIn Room = none
-offIn (Marked f) = none
+offIn (NotZero f) = none
 offIn (Off x bits f) = some (x, bits)
 
 -- an answer, and the lent units as left
@@ -56,7 +56,7 @@ told answer left = record { verdict = verdictOf answer; facets = facetsIn answer
 -- the answer to the first facet at fault
 unfoldable pub atFault : Fault → ℕ → Reading
 atFault fault.Sound f = Facets 0
-atFault fault.Marked f = Marked f
+atFault fault.NotZero f = NotZero f
 atFault (fault.Off x bits facet) f = Off x bits facet
 
 unfoldable pub searched : List ℕ → Option ℕ → Reading
@@ -74,7 +74,7 @@ leftBy (Facets n) bytes lent = written (unitsIn bytes) lent
 leftBy Length bytes lent = lent
 leftBy Header bytes lent = lent
 leftBy Room bytes lent = lent
-leftBy (Marked f) bytes lent = lent
+leftBy (NotZero f) bytes lent = lent
 leftBy (Off x bits f) bytes lent = lent
 
 -- ---- it is the answer of `rules`
@@ -94,20 +94,20 @@ module _ (bytes : List ℕ) (lent : List ℤ) where
 
   module _ (sized : illSized bytes ≡ false) (head : headed bytes ≡ true) (roomy : ltb (length lent) (9 * countIn bytes) ≡ false) where
     -- codes 1 to 3 are not given
-    at-facets : firstMatch 1 (readTests bytes (length lent)) ≡ firstMatch 4 ((λ _. marked bytes (firstFault bytes)) ∷ (λ _. firstFault bytes) ∷ [])
+    at-facets : firstMatch 1 (readTests bytes (length lent)) ≡ firstMatch 4 ((λ _. notZero bytes (firstFault bytes)) ∷ (λ _. firstFault bytes) ∷ [])
     unfolding readTests given found
     at-facets = match-later 1 _ _ (rw sized) ∙ match-later 2 _ _ (rw head) ∙ match-later 3 _ _ (rw roomy)
 
     at-fault : (f : ℕ) → firstFault bytes ≡ some f → (x : Fault) → x ≡ facetFault bytes f → answered (atFault x f) ≡ readFile bytes lent
-    unfolding atFault leftBy verdictOf facetsIn offIn handedBack marked found firstFault
+    unfolding atFault leftBy verdictOf facetsIn offIn handedBack notZero found firstFault
     at-fault f e fault.Sound is = absurd (not-both (lowest-is (countIn bytes) (faulty bytes) f e .passes) (fault-told bytes f is))
-    at-fault f e fault.Marked is = by (at-facets ∙ match-here 4 _ _ f (rw (e, fault-told bytes f is .0)))
+    at-fault f e fault.NotZero is = by (at-facets ∙ match-here 4 _ _ f (rw (e, fault-told bytes f is .0)))
     at-fault f e (fault.Off x bits facet) is =
         let a = fault-told bytes f is in
         rw (a .bits-is, a .number-is, a .facet-is) (by (at-facets ∙ match-later 4 _ _ (rw (e, a .blank-is)) ∙ match-here 5 _ _ f e))
 
     no-fault : firstFault bytes ≡ none → answered (Facets (countIn bytes)) ≡ readFile bytes lent
-    unfolding leftBy verdictOf facetsIn offIn marked
+    unfolding leftBy verdictOf facetsIn offIn notZero
     no-fault e = by (at-facets ∙ match-later 4 _ _ (rw e) ∙ match-later 5 _ _ e ∙ match-end 6)
 
   pub told-reading : {a : Reading} → a ≡ reading bytes (length lent) → {left : List ℤ} → left ≡ leftBy a bytes lent → told a left ≡ readFile bytes lent

@@ -19,7 +19,7 @@ ghost use Rattle.stl.specs.Reading.{told, searched, reading};
 // What is wrong with a facet: nothing; its normal or its u16; or a number off the grid, which is handed back with its bits and its facet.
 pub(crate) enum Fault {
     Sound,
-    Marked,
+    NotZero,
     Off(f32, u32, u32),
 }
 
@@ -32,7 +32,7 @@ pub enum Reading {
     // Room for under nine numbers a facet.
     Room,
     // A facet whose normal or u16 is not zero.
-    Marked(u32),
+    NotZero(u32),
     // A number off the grid as it stood, its bits, and its facet.
     Off(f32, u32, u32),
 }
@@ -52,7 +52,7 @@ fn first_fault(a: Fault, b: Fault) -> Fault
 {
     match a {
         Fault::Sound => b,
-        Fault::Marked => Fault::Marked,
+        Fault::NotZero => Fault::NotZero,
         Fault::Off(x, bits, facet) => Fault::Off(x, bits, facet),
     }
 }
@@ -86,7 +86,7 @@ fn facet_fault(file: &[u8], facet: u32) -> Fault
     ensures { λ r. ⌜ r ≡ facetFault (now (file .entry)) facet ⌝ }
 {
     if !is_blank(file, facet as usize) {
-        return Fault::Marked;
+        return Fault::NotZero;
     }
     let place = 84 + 50 * (facet as usize);
     let a = corner_fault(file, place + 12, facet);
@@ -104,7 +104,7 @@ fn look_through(file: &[u8], count: u32) -> Reading
     while f < count {
         match facet_fault(file, f) {
             Fault::Sound => {}
-            Fault::Marked => return Reading::Marked(f),
+            Fault::NotZero => return Reading::NotZero(f),
             Fault::Off(x, bits, facet) => return Reading::Off(x, bits, facet),
         }
         f += 1;
@@ -173,7 +173,7 @@ pub fn read_file(file: &[u8], units: &mut [i16]) -> Reading
         Reading::Length => {}
         Reading::Header => {}
         Reading::Room => {}
-        Reading::Marked(_) => {}
+        Reading::NotZero(_) => {}
         Reading::Off(_, _, _) => {}
     }
     answer

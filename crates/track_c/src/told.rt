@@ -66,7 +66,7 @@ pub(crate) fn tell_read(r: Reading, outcome: &mut [u32; 4])
         Reading::Length => put_four(outcome, 1, 0, 0, 0),
         Reading::Header => put_four(outcome, 2, 0, 0, 0),
         Reading::Room => put_four(outcome, 3, 0, 0, 0),
-        Reading::Marked(facet) => put_four(outcome, 4, facet, 0, 0),
+        Reading::NotZero(facet) => put_four(outcome, 4, facet, 0, 0),
         Reading::Off(_, bits, facet) => put_four(outcome, 5, facet, 0, bits),
     }
 }

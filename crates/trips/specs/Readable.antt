@@ -15,7 +15,7 @@ use Rattle.rules.specs.Words.{word}
 use Rattle.rules.specs.First.{Verdict, firstMatch}
 use Rattle.rules.specs.Job.{written}
 use Rattle.rules.specs.Stl as Stl
-use Rattle.rules.specs.Stl.{mostFacets, fileLength, header, facetAt, countIn, illSized, blank, bitsAt, unitsOf, unitsIn, faulty, firstFault, marked, readTests, readFile, Read}
+use Rattle.rules.specs.Stl.{mostFacets, fileLength, header, facetAt, countIn, illSized, blank, bitsAt, unitsOf, unitsIn, faulty, firstFault, notZero, readTests, readFile, Read}
 use Rattle.rules.specs.Laws.Truth.{and-first, and-second, and-both, or-no-first, or-no-second, or-neither}
 use Rattle.rules.specs.Laws.Below.{lowest-none, none-lowest, any-none, none-any}
 use Rattle.rules.specs.Laws.Stl.{headed-reads}
@@ -69,7 +69,7 @@ sized-exactly bytes =
 
 module _ (bytes : List ℕ) (room : ℕ) where
   silent-readable : Silent (readTests bytes room) ↔ Readable bytes room
-  unfolding readTests firstFault marked
+  unfolding readTests firstFault notZero
   silent-readable = (
     λ (fit, (top, (big, (_, (clear, _))))).
         let (long, few) = sized-exactly bytes .0 (given-silent (illSized bytes) .0 fit) in
@@ -84,7 +84,7 @@ module _ (bytes : List ℕ) (room : ℕ) where
         let top = given-silent (not (Stl.headed bytes)) .1 (ap not (headed-reads bytes (omega (arith, r .long)) .1 (r .headed))) in
         let clear : firstFault bytes ≡ none = none-lowest (countIn bytes) (faulty bytes) (λ f l. sound-exactly bytes f .1 (r .sound f l)) in (
           given-silent _ .1 (sized-exactly bytes .1 (r .long, r .few)),
-          (top, (given-silent _ .1 (le-ltb room (9 * countIn bytes) (r .roomy)), (ap (marked bytes) clear, (clear, tt)))),
+          (top, (given-silent _ .1 (le-ltb room (9 * countIn bytes) (r .roomy)), (ap (notZero bytes) clear, (clear, tt)))),
         ),
   )
 

@@ -26,7 +26,7 @@ fn list_file(file: &[u8], out: &mut [u8]) -> Said
         Reading::Length => refused(1, 0, out),
         Reading::Header => refused(2, 0, out),
         Reading::Room => refused(3, 0, out),
-        Reading::Marked(facet) => refused(4, facet as usize, out),
+        Reading::NotZero(facet) => refused(4, facet as usize, out),
         Reading::Off(_, bits, facet) => refused_off(facet as usize, bits as usize, out),
     }
 }

@@ -55,7 +55,7 @@ pub fn read_file(file: &[u8], units: &mut [i16]) -> Read {
         let place = read.len() as u32;
         match units_of(facet) {
             Ok(facet) => read.push(facet),
-            Err(Fault::Marked) => return Read::refused(4, place),
+            Err(Fault::NotZero) => return Read::refused(4, place),
             Err(Fault::OffGrid(bits)) => return Read::off_grid(place, bits),
         }
     }
@@ -125,7 +125,7 @@ fn put_file(facets: impl ExactSizeIterator<Item = Facet>, file: &mut [u8]) {
 /// What is wrong with a facet.
 enum Fault {
     /// A bit of its normal or its u16.
-    Marked,
+    NotZero,
     /// Its first number off the grid.
     OffGrid(u32),
 }
@@ -134,7 +134,7 @@ fn units_of(facet: &[u8; FACET_BYTES]) -> Result<Facet, Fault> {
     let (normal, rest) = facet.split_at(CORNERS_AT);
     let (numbers, mark) = rest.split_at(WORD_BYTES * FACET_NUMBERS);
     if !is_zero(normal) || !is_zero(mark) {
-        return Err(Fault::Marked);
+        return Err(Fault::NotZero);
     }
     let mut units = [0; FACET_NUMBERS];
     for (unit, number) in units.iter_mut().zip(numbers.as_chunks().0) {

@@ -40,8 +40,8 @@ pub fn read_file(file: &[u8], units: &mut [i16]) -> Read {
     }
     for facet in 0..count {
         let begin = 84 + 50 * facet;
-        let marked = |at: usize| file[begin + at] != 0;
-        if (0..12).any(marked) || (48..50).any(marked) {
+        let not_zero = |at: usize| file[begin + at] != 0;
+        if (0..12).any(not_zero) || (48..50).any(not_zero) {
             return Read::refused(4, facet as u32);
         }
         for k in 0..9 {

@@ -14,7 +14,7 @@ use Rattle.rules.specs.Below.{orElse, found, lowest, any, all, gather, tabulate
 use Rattle.rules.specs.Words.{word, words, bytesOf}
 use Rattle.rules.specs.First.{given, Verdict, firstMatch}
 use Rattle.rules.specs.Job.{written}
-use Rattle.rules.specs.Stl.{mostFacets, fileLength, header, facetsOf, fileOf, Wrote, countIn, illSized, headed, blank, bitsAt, faulty, firstFault, firstOff, marked, readTests, unitAt, unitsIn, handedBack, readFile, writeFacets}
+use Rattle.rules.specs.Stl.{mostFacets, fileLength, header, facetsOf, fileOf, Wrote, countIn, illSized, headed, blank, bitsAt, faulty, firstFault, firstOff, notZero, readTests, unitAt, unitsIn, handedBack, readFile, writeFacets}
 use Rattle.rules.specs.Laws.Truth.{or-first, or-second}
 use Rattle.rules.specs.Laws.First.{match-here}
 use Rattle.trips.specs.Trips.{write-read}
@@ -38,7 +38,7 @@ Reads bytes lent facets left = readFile bytes lent ≡ record { verdict = record
 
 -- its code and place
 unfoldable judged : List ℕ → List ℤ → Verdict
-unfolding orElse found lowest any all word given firstMatch header countIn illSized headed blank bitsAt faulty firstFault marked readTests
+unfolding orElse found lowest any all word given firstMatch header countIn illSized headed blank bitsAt faulty firstFault notZero readTests
 judged bytes lent = firstMatch 1 (readTests bytes (length lent))
 
 four-at : (bytes : List ℕ) (lent : List ℤ) (f : ℕ) → judged bytes lent ≡ record { code = 4; place = f } → Refuses bytes lent 4 f
@@ -123,7 +123,7 @@ too-many facets lent = rw (over-verdict (top ++ four 1 16 0 0 ++ facets) (length
 
 -- ---- 4: a normal or a u16 that is not zero
 
-pub marked-files :
+pub not-zero-files :
     -- the lowest bit of a normal, a negative zero in one, and the u16, low byte and high
     Refuses (one (normal 0 1)) (room 9) 4 0
     × Refuses (one (normal 2 0x8000_0000)) (room 9) 4 0
@@ -133,7 +133,7 @@ pub marked-files :
     × Refuses (two plain (normal 1 1)) (room 18) 4 1
     × Refuses (two plain (tagged 1)) (room 18) 4 1
 unfolding judged
-marked-files = (
+not-zero-files = (
   four-at _ _ _ refl,
   four-at _ _ _ refl,
   four-at _ _ _ refl,
