@@ -59,7 +59,7 @@
 #define TRACK_ANSWERS_LEN(p) (p)
 #define TRACK_FINAL_MARKS_LEN(n) (n)
 #define TRACK_TRIANGLES_LEN(n) (6 * (n))
-#define TRACK_WORK_LEN(n) (4 * (n))
+#define TRACK_WORK_LEN(v, n) (4 * (n) + 2 * (v))
 
 /* The same for the largest job, which has points: buffers of these lengths serve
  * every job. */
@@ -69,7 +69,7 @@
 #define TRACK_MOST_ANSWERS_LEN TRACK_ANSWERS_LEN(TRACK_MOST_PROPOSALS)
 #define TRACK_MOST_FINAL_MARKS_LEN TRACK_FINAL_MARKS_LEN(TRACK_MOST_ROWS)
 #define TRACK_MOST_TRIANGLES_LEN TRACK_TRIANGLES_LEN(TRACK_MOST_ROWS)
-#define TRACK_MOST_WORK_LEN TRACK_WORK_LEN(TRACK_MOST_ROWS)
+#define TRACK_MOST_WORK_LEN TRACK_WORK_LEN(TRACK_MOST_IDS, TRACK_MOST_ROWS)
 
 /* What a proposal asks for, its second word. */
 enum track_kind {
@@ -297,10 +297,21 @@ extern "C" {
  *              then by the corner of the row that the triangle leaves out, 0 to
  *              3. Each is three ids, outward or rising as word 7 asks. There
  *              are at most 2N.
- * work         TRACK_WORK_LEN words. Code 0 leaves the neighbour list there:
- *              word 4r + c is the row across the triangle of row r that leaves
- *              out its corner c. Codes 1 to 4 leave work as it was; codes 5 to
- *              15 leave zero in its first 4N words.
+ * work         TRACK_WORK_LEN words, at most 10,240. Code 0 leaves the
+ *              neighbour list there, and behind it two tallies of each id:
+ *
+ *                  word           is
+ *                  4r + c         the row across the triangle of row r that
+ *                                 leaves out its corner c
+ *                  4N + v         how many inside rows hold id v, after the
+ *                                 last proposal
+ *                  4N + V + v     how many rows hold id v, inside or outside
+ *
+ *              An outer row counts like any other; so word 4N + V is how many
+ *              outer rows there are. An id that no row holds has 0 and 0.
+ *              Codes 1 to 4 leave work as it was; codes 5 to 15 leave zero in
+ *              its first 4N + 2V words. Earlier it was 4N words long and had
+ *              no tallies: with so much the code is TRACK_CODE_ROOM.
  * outcome      TRACK_OUTCOME_LEN words
  *
  * Of each buffer, what stands behind these bytes and words is never changed. */

@@ -6,14 +6,14 @@ use mathlib.Core.Option.{some}
 use mathlib.Core.List.{List, _++_, flatten}
 use Prim.Native.Nat.{ℕ, _+_, _*_, _≤_, _<_}
 use lib.ListN.{length, getD, take, drop, replicate}
-use Rattle.rules.specs.Table.{neighbourList}
 use Rattle.rules.specs.Points.{Point}
 use Rattle.rules.specs.Proposals.{Proposal, RefusedByCases, taken}
-use Rattle.rules.specs.Job.{track, headerOf, Job, jobOf, answersOf, standing, finalOf, skinWith, listedOf, Lent, workRoom, written, codes, run}
+use Rattle.rules.specs.Job.{track, headerOf, Job, jobOf, answersOf, standing, finalOf, skinWith, workWith, listedOf, Lent, workRoom, written, codes, run}
 use Rattle.rules.specs.Made.{withProposals, cutTo, remade}
 use Rattle.rules.specs.Laws.Count.{ExactlyOne, TheOther}
-use Rattle.rules.specs.Laws.Lists.{Among, Distinct}
+use Rattle.rules.specs.Laws.Lists.{Among, Distinct, Exactly}
 use Rattle.rules.specs.Laws.First.{conditionAt, FirstOf}
+use Rattle.rules.specs.Reading.Rows.{Holds}
 use Rattle.rules.specs.Reading.Neighbours.{Side}
 use Rattle.rules.specs.Reading.Skin.{Inside, BetweenSides, SkinTriangle}
 use Rattle.rules.specs.Reading.Outer.{Outer, OuterAlike}
@@ -52,6 +52,10 @@ module _ (bytes : List ℕ) (before : Lent) (o : Outcome) (after : Lent) where
   abbrev pub proposals : ℕ
   proposals = headerOf bytes .proposals
 
+  -- V
+  abbrev pub ids : ℕ
+  ids = headerOf bytes .ids
+
   -- word 7: 0 without points, 1 with points and a list that is outward, 3 with points and a list whose ids rise; any other is code 3
   abbrev pub word7 : ℕ
   word7 = headerOf bytes .mode
@@ -76,7 +80,7 @@ module _ (bytes : List ℕ) (before : Lent) (o : Outcome) (after : Lent) where
     -- a refusal gives zero for both counts, and changes nothing in answers, final marks and triangles
     pub refusal-leaves : o .code ≢ 0
         → (o .taken ≡ 0) × (o .triangles ≡ 0) × (after .answers ≡ before .answers) × (after .finalMarks ≡ before .finalMarks) × (after .triangles ≡ before .triangles)
-    -- codes 1 to 4 don't touch work; codes 5 to 15 leave zero in its first 4N words and the rest unchanged
+    -- codes 1 to 4 don't touch work; codes 5 to 15 leave zero in its first 4N + 2V words and the rest unchanged
     pub work-kept : o .code ≢ 0 → o .code ≤ 4 → after .work ≡ before .work
     pub work-cleared : 5 ≤ o .code → after .work ≡ replicate (workRoom track (headerOf bytes)) 0 ++ drop (workRoom track (headerOf bytes)) (before .work)
 
@@ -107,11 +111,12 @@ module _ (bytes : List ℕ) (before : Lent) (o : Outcome) (after : Lent) where
     pub taken-counted : o .taken ≡ taken (take proposals (after .answers))
     pub triangles-counted : o .triangles ≡ length (skinWith job (finalOf job))
     pub place-zero : o .place ≡ 0
-    -- the answers, the final marks, the skin, three ids each, and the neighbour list stand at the front, and all after them is unchanged
+    -- the answers, the final marks, the skin, three ids each, and the work area for the final marks stand at the front, and all after them
+    -- is unchanged
     pub answers-left : after .answers ≡ written (answersOf job) (before .answers)
     pub marks-left : after .finalMarks ≡ written (finalOf job) (before .finalMarks)
     pub triangles-left : after .triangles ≡ written (flatten listed) (before .triangles)
-    pub work-left : after .work ≡ written (neighbourList (job .table)) (before .work)
+    pub work-left : after .work ≡ written (workWith job (finalOf job)) (before .work)
 
   -- the final marks as lent back, and the taken proposals backwards with add and remove exchanged: taken are those whose byte in answers is 0
   abbrev pub marksBack : List ℕ
@@ -174,9 +179,19 @@ module _ (bytes : List ℕ) (before : Lent) (o : Outcome) (after : Lent) where
     pub each-way : word7 ≡ 1 → (x y w : ℕ) → SkinTriangle (job .table) (Inside (finalOf job)) x y w
         → ExactlyOne (o .triangles) (Passes (after .triangles) x y) × ExactlyOne (o .triangles) (Passes (after .triangles) y x)
 
+  -- Document 02 (vii): corner tallies in the work area, true after each proposal.
+  pub record CornerTallies : Type 0 where
+    -- word 4N + v of work is how many inside rows hold v after the last proposal, and word 4N + V + v how many rows hold v, outer ones too
+    pub inside-at : (v : ℕ) → v < ids → Exactly rows (λ r. Inside (finalOf job) r × Holds (job .table) r v) (getD (after .work) (4 * rows + v) 0)
+    pub all-at : (v : ℕ) → v < ids → Exactly rows (λ r. Holds (job .table) r v) (getD (after .work) (4 * rows + ids + v) 0)
+    -- after the first k proposals, for every k: the job cut to these is run, and leaves the work area for the marks that stand then
+    pub each-step : (k : ℕ) → k ≤ proposals → (lent : Lent) → (RoomShort track (withProposals (headerOf bytes) k) lent → ⊥)
+        → run track (cutTo track k bytes) lent .left .work ≡ written (workWith job (standing job k)) (lent .work)
+
   pub record Demands : Type 0 where
     pub one : Demand1
     pub two : o .code ≡ 0 → Demand2
     pub three : o .code ≡ 0 → Demand3
     pub finite : o .code ≡ 0 → FiniteSkin
     pub outwards : o .code ≡ 0 → OutwardSkin
+    pub tallies : o .code ≡ 0 → CornerTallies

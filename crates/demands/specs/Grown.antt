@@ -6,16 +6,16 @@ use native.Mathlib.Numerals.{add-one}
 use native.Mathlib.Omega.{arith}
 use lib.ListN.{getD, take}
 use lib.Seq.{take-all, take-at, take-suc}
-use Rattle.rules.specs.Table.{neighbourList}
 use Rattle.rules.specs.Skin.{triangle}
 use Rattle.rules.specs.Proposals.{insideIn, answer, marksAfter, finalMarks, taken}
-use Rattle.rules.specs.Job.{track, headerOf, Job, jobOf, answersOf, standing, finalOf, Lent, written, run}
+use Rattle.rules.specs.Job.{track, headerOf, Job, jobOf, answersOf, standing, finalOf, workWith, Lent, written, run}
 use Rattle.rules.specs.Laws.Count.{TheOther}
 use Rattle.rules.specs.Laws.Written.{written-at}
 use Rattle.rules.specs.Laws.Proposals.{answer-at, final-more}
 use Rattle.rules.specs.Laws.Job.{job-corners, job-rows, job-proposals, job-answers}
 use Rattle.rules.specs.Reading.Neighbours.{Side}
-use Rattle.rules.specs.Reading.Closed.{across-is, across-other, list-length, list-at}
+use Rattle.rules.specs.Reading.Closed.{across-is, across-other}
+use Rattle.rules.specs.Reading.Work.{work-length, work-across}
 use Rattle.rules.specs.Reading.Answers.{answer-exactly, taken-exactly}
 use Rattle.rules.specs.Reading.Skin.{inside-reads}
 use Rattle.rules.specs.Reading.Room.{skin-same-length, skin-once, skin-listed}
@@ -59,9 +59,9 @@ module _ (bytes : List ℕ) (before : Lent) {o : Outcome} {after : Lent} (ran : 
       let other = across-is (job-closed bytes before ran zero-code .paired) r c lr lc in (
         other,
         ap (λ (xs : List ℕ). getD xs (4 * r + c) 0) (work-is bytes before ran zero-code)
-            ∙ written-at (neighbourList t) (before .work) (4 * r + c) (rw (list-length t, four) (omega arith))
-            ∙ ap (λ (n : ℕ). getD (neighbourList t) (n * r + c) 0) (sym four)
-            ∙ list-at t r c lr lc
+            ∙ written-at (workWith job (finalOf job)) (before .work) (4 * r + c) (rw (work-length t (job .ids) (finalOf job), four) (omega arith))
+            ∙ ap (λ (n : ℕ). getD (workWith job (finalOf job)) (n * r + c) 0) (sym four)
+            ∙ work-across t (job .ids) (finalOf job) r c lr lc
             ∙ across-other t r c other,
       )
 

@@ -18,6 +18,7 @@ use Rattle.demands.specs.Grown.{demand-2}
 use Rattle.demands.specs.Rings.{demand-3}
 use Rattle.demands.specs.Finite.{skin-finite}
 use Rattle.demands.specs.Outwards.{skin-outward}
+use Rattle.demands.specs.Tallies.{corner-tallies}
 
 module _ (bytes : List ℕ) (before : Lent) where
   pub kept : {o : Outcome} {after : Lent} → result o after ≡ run track bytes before → Demands bytes before o after
@@ -27,6 +28,7 @@ module _ (bytes : List ℕ) (before : Lent) where
     three = demand-3 bytes before ran;
     finite = skin-finite bytes before ran;
     outwards = skin-outward bytes before ran;
+    tallies = corner-tallies bytes before ran;
   }
 
   -- any two results that keep them are equal

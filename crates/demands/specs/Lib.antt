@@ -5,6 +5,7 @@
 --     Rings    demand 3 is kept
 --     Finite   document 02 (ii) is kept: the skin is finite
 --     Outwards document 02 (iii) and (v) are kept: the skin in the order asked for
+--     Tallies  document 02 (vii) is kept: corner tallies in the work area
 --     Kept     all of it follows from the contract of `track::run`, and says all that it says
 --     Settled  each public call leaves one possible result
 --     ShutOut  versions that the demands shut out
@@ -17,6 +18,7 @@ pub mod Grown
 pub mod Rings
 pub mod Finite
 pub mod Outwards
+pub mod Tallies
 pub mod Kept
 pub mod Settled
 pub mod ShutOut

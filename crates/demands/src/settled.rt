@@ -9,18 +9,22 @@ use rings::ringless_vertex;
 use round::Stop;
 use round::turn;
 use table::Broken;
+use tallies::flip_row;
 use values::Found;
 ghost use mathlib.Core.Path.{_≡_};
 ghost use mathlib.Core.Logic.{_≢_};
+ghost use mathlib.Core.Bool.{false};
 ghost use mathlib.Core.Option.{some};
-ghost use Prim.Native.Nat.{_*_, _≤_};
-ghost use lib.ListN.{length};
-ghost use Rattle.rules.specs.Below.{lowest};
+ghost use Prim.Native.Nat.{_*_, _≤_, _<_};
+ghost use lib.ListN.{length, set};
+ghost use Rattle.rules.specs.Below.{lowest, bit};
 ghost use Rattle.rules.specs.First.{firstMatch};
 ghost use Rattle.rules.specs.Table.{neighbourList};
 ghost use Rattle.rules.specs.Skin.{ringless};
 ghost use Rattle.rules.specs.Points.{pointIn};
+ghost use Rattle.rules.specs.Cases.{otherSide};
 ghost use Rattle.rules.specs.Proposals.{insideIn};
+ghost use Rattle.rules.specs.Work.{workArea};
 ghost use Rattle.rules.specs.Job.{track, mostIds, mostRows, written, layoutTests, tableTests, markTests, pointTests};
 ghost use Rattle.job.specs.Reading.{header};
 ghost use Rattle.table.specs.Rows.{tableIn, rowsIn};
@@ -28,6 +32,7 @@ ghost use Rattle.table.specs.Ground.{Ground, Grounded};
 ghost use Rattle.table.specs.Closed.{leftOf};
 ghost use Rattle.rings.specs.Far.{Marked};
 ghost use Rattle.round.specs.Edge.{Near};
+ghost use Rattle.tallies.specs.Area.{Area};
 ghost use Rattle.demands.specs.Settled.{readingAt, brokenAt, unfitAt, misplacedAt, foundAt, TheStop};
 
 pub(crate) fn header_read(job: &[u8]) -> Reading
@@ -83,4 +88,19 @@ pub(crate) fn stop_found(
     ensures { λ r. ⌜ TheStop (tableIn (now (rows .entry))) (insideIn (now (marks .entry))) a b first second r ⌝ }
 {
     turn(rows, neighbours, marks, a, b, first, second)
+}
+
+pub(crate) fn row_flipped(
+    rows: &[u8],
+    ids: usize,
+    row: usize,
+    adding: bool,
+    marks: &mut [u8],
+    work: &mut [u32],
+)
+    requires { ⌜ Area (now rows) (now work) (now marks) ids × (row < rowsIn (now rows)) × (otherSide adding (insideIn (now marks)) row ≡ false) ⌝ }
+    ensures { λ _. ⌜ (now (marks .exit) ≡ set (now (marks .entry)) row (bit adding))
+        × (now (work .exit) ≡ workArea (tableIn (now (rows .entry))) ids (set (now (marks .entry)) row (bit adding))) ⌝ }
+{
+    flip_row(rows, row, adding, marks, work)
 }

@@ -1,6 +1,6 @@
 -- One proposal by its tests, and proposals one after the other.
 use mathlib.Core.Path.{_≡_, refl, sym, ap, _∙_}
-use mathlib.Core.Logic.{⊎-elim}
+use mathlib.Core.Logic.{_≢_}
 use mathlib.Core.Bool.{Bool, true, false, not, _||_, cond}
 use mathlib.Core.List.{List, [], _∷_, _++_}
 use Prim.Native.Nat.{ℕ, _+_, _*_, _/_, _≤_, _<_}
@@ -8,18 +8,20 @@ use native.Mathlib.Nat.{le-antisymm}
 use native.Mathlib.Omega.{arith}
 use lib.Dec.{eqb, ltb}
 use lib.ListN.{length, set}
-use borrow.Author.Tests.{eqb-true, lt-ltb, le-ltb, ltb-true}
+use borrow.Author.Tests.{ne-eqb, lt-ltb, le-ltb, ltb-true, not-false}
 use Rattle.rules.specs.Below.{bit, gather, tabulate}
 use Rattle.rules.specs.Table.{Table, holds}
 use Rattle.rules.specs.Cases.{otherSide, caseAnswer}
 use Rattle.rules.specs.Proposals.{Proposal, insideIn, adds, answer, marksAfter, answersTo, finalMarks, taken}
+use Rattle.rules.specs.Work.{workArea}
 use Rattle.rules.specs.Job.{proposalIn, written}
 use Rattle.rules.specs.Words.{word}
-use Rattle.rules.specs.Laws.Truth.{true-or-false}
 use Rattle.rules.specs.Laws.Lists.{tabulate-more, tabulate-length}
 use Rattle.rules.specs.Laws.Count.{bit-small}
 use Rattle.rules.specs.Laws.Proposals.{answer-is, final-length, final-more, answers-length, answers-more, taken-more, taken-few}
 use Rattle.rules.specs.Laws.Written.{written-none, written-length, written-snoc}
+use Rattle.table.specs.Rows.{tableIn}
+use Rattle.tallies.specs.Area.{Area}
 
 abbrev pub proposal : ℕ → ℕ → Proposal
 proposal row kind = record { row = row; kind = kind }
@@ -30,11 +32,18 @@ proposalsIn bytes = tabulate (length bytes / 8) (proposalIn bytes)
 
 -- ---- the tests of one proposal, first match decides
 
--- a proposal that is taken names a row
-taken-row : (t : Table) (marks : List ℕ) (p : Proposal) → answer t marks p ≡ 0 → p .row < t .rows
+none-given : (a b c d : Bool) (x : ℕ) → cond a 1 (cond b 2 (cond c 3 (cond d 4 x))) ≡ 0 → (a ≡ false) × (d ≡ false)
+none-given true b c d x e = absurd (omega arith)
+none-given false true c d x e = absurd (omega arith)
+none-given false false true d x e = absurd (omega arith)
+none-given false false false true x e = absurd (omega arith)
+none-given false false false false x e = (refl, refl)
+
+-- a proposal that is taken names a row, and one that is not on the other side already
+taken-row : (t : Table) (marks : List ℕ) (p : Proposal) → answer t marks p ≡ 0 → (p .row < t .rows) × (otherSide (adds p) (insideIn marks) (p .row) ≡ false)
 taken-row t marks p e =
-    ⊎-elim (ltb-true (p .row) (t .rows)) (λ (off : ltb (p .row) (t .rows) ≡ false). let one : answer t marks p ≡ 1 = answer-is t marks p ∙ rw off in absurd (omega arith))
-    (true-or-false (ltb (p .row) (t .rows)))
+    let (row, here) = none-given (not (ltb (p .row) (t .rows))) (not (eqb (p .kind) 1 || eqb (p .kind) 2)) (holds t (p .row) 0) (otherSide (adds p) (insideIn marks) (p .row)) (caseAnswer t (insideIn marks) (adds p) (p .row)) (sym (answer-is t marks p) ∙ e) in
+    (ltb-true (p .row) (t .rows) (not-false (ltb (p .row) (t .rows)) row), here)
 
 -- each answer where those before it do not apply
 module _ (t : Table) (marks : List ℕ) (row kind : ℕ) where
@@ -66,16 +75,29 @@ module _ (t : Table) (marks bytes : List ℕ) (k : ℕ) {row kind given : ℕ} (
   unfolding proposalIn
   given-is = eg ∙ rw (er, ek)
 
-  pub given-row : eqb given 0 ≡ true → row < t .rows
-  given-row e = taken-row t marks (proposal row kind) (sym eg ∙ eqb-true given 0 e)
+  pub given-row : given ≡ 0 → (row < t .rows) × (otherSide (eqb kind 1) (insideIn marks) row ≡ false)
+  unfolding adds
+  given-row e = taken-row t marks (proposal row kind) (sym eg ∙ e)
 
-  pub marks-are : {marks′ : List ℕ} {mark : ℕ} → mark ≡ cond (eqb kind 1) 1 0 → marks′ ≡ cond (eqb given 0) (set marks row mark) marks → marks′ ≡ marksAfter t marks (proposalIn bytes k)
-  unfolding marksAfter proposalIn adds bit
-  marks-are em e = e ∙ rw (em, eg, er, ek)
+  -- taken: the row goes to the other side
+  module _ (e : given ≡ 0) where
+    pub one-taken : 1 ≡ bit (eqb (answer t marks (proposalIn bytes k)) 0)
+    unfolding bit
+    one-taken = rw (← given-is, e)
 
-  pub taken-is : {r : ℕ} → r ≡ cond (eqb given 0) 1 0 → r ≡ bit (eqb (answer t marks (proposalIn bytes k)) 0)
-  unfolding bit
-  taken-is e = e ∙ rw given-is
+    pub row-taken : {marks′ : List ℕ} → marks′ ≡ set marks row (bit (eqb kind 1)) → marks′ ≡ marksAfter t marks (proposalIn bytes k)
+    unfolding marksAfter adds proposalIn
+    row-taken em = em ∙ rw (← given-is, e, er, ek)
+
+  -- refused: the marks stay
+  module _ (ne : given ≢ 0) where
+    pub none-taken : 0 ≡ bit (eqb (answer t marks (proposalIn bytes k)) 0)
+    unfolding bit
+    none-taken = rw (← given-is, ne-eqb given 0 ne)
+
+    pub row-kept : marks ≡ marksAfter t marks (proposalIn bytes k)
+    unfolding marksAfter
+    row-kept = rw (← given-is, ne-eqb given 0 ne)
 
 -- ---- proposals one after the other
 
@@ -83,22 +105,23 @@ module _ (t : Table) (marks bytes : List ℕ) (k : ℕ) {row kind given : ℕ} (
 abbrev pub proposalsTo : List ℕ → ℕ → List Proposal
 proposalsTo bytes k = tabulate k (proposalIn bytes)
 
-module _ (t : Table) (bytes marks₀ answers₀ : List ℕ) where
-  -- k proposals were answered
-  pub record Answered (k count : ℕ) (answers marks : List ℕ) : Type 0 where
+module _ (t : Table) (ids : ℕ) (bytes marks₀ answers₀ : List ℕ) where
+  -- k proposals were answered, and the work area is that for the marks which these left
+  pub record Answered (k count : ℕ) (answers marks work : List ℕ) : Type 0 where
     pub upto : k ≤ length bytes / 8
     pub counted : count ≡ taken (answersTo t marks₀ (proposalsTo bytes k))
     pub given : answers ≡ written (answersTo t marks₀ (proposalsTo bytes k)) answers₀
     pub standing : marks ≡ finalMarks t marks₀ (proposalsTo bytes k)
+    pub area : work ≡ workArea t ids marks
 
   answers-so-far : (k : ℕ) → length (answersTo t marks₀ (proposalsTo bytes k)) ≡ k
   answers-so-far k = answers-length t marks₀ (proposalsTo bytes k) ∙ tabulate-length k (proposalIn bytes)
 
-  pub answering-begins : Answered 0 0 answers₀ marks₀
+  pub answering-begins : {work : List ℕ} → work ≡ workArea t ids marks₀ → Answered 0 0 answers₀ marks₀ work
   unfolding tabulate gather answersTo finalMarks taken
-  answering-begins = record { upto = omega arith; counted = refl; given = written-none answers₀; standing = refl }
+  answering-begins e = record { upto = omega arith; counted = refl; given = written-none answers₀; standing = refl; area = e }
 
-  module _ {k count : ℕ} {answers marks : List ℕ} (a : Answered k count answers marks) where
+  module _ {k count : ℕ} {answers marks work : List ℕ} (a : Answered k count answers marks work) where
     pub taken-small : {r : ℕ} → r ≡ bit (eqb (answer t marks (proposalIn bytes k)) 0) → count + r ≤ k + 1
     unfolding bit
     taken-small e =
@@ -112,14 +135,16 @@ module _ (t : Table) (bytes marks₀ answers₀ : List ℕ) where
       answers-room =
           ap length (a .given) ∙ written-length (answersTo t marks₀ (proposalsTo bytes k)) answers₀ (rw (answers-so-far k) (omega (arith, a .upto)))
 
-      pub answering-turn : k < length bytes / 8 → {r : ℕ} {answers′ marks′ : List ℕ} → r ≡ bit (eqb (answer t marks (proposalIn bytes k)) 0)
-          → answers′ ≡ set answers k (answer t marks (proposalIn bytes k)) → marks′ ≡ marksAfter t marks (proposalIn bytes k) → Answered (k + 1) (count + r) answers′ marks′
-      answering-turn l {r} {answers′} {marks′} er ea em = record {
+      pub answering-turn : k < length bytes / 8 → {r : ℕ} {answers′ marks′ work′ : List ℕ}
+          → (r ≡ bit (eqb (answer t marks (proposalIn bytes k)) 0)) × (answers′ ≡ set answers k (answer t marks (proposalIn bytes k)))
+          × (marks′ ≡ marksAfter t marks (proposalIn bytes k)) × (work′ ≡ workArea t ids marks′) → Answered (k + 1) (count + r) answers′ marks′ work′
+      answering-turn l (er, ea, em, ew) = record {
         upto = omega arith;
         counted = rw (one-more, taken-more, er, a .counted);
         given = rw (one-more, ea, a .given) (ap (λ (n : ℕ). set (written before answers₀) n new) (sym (answers-so-far k)) ∙ written-snoc before new answers₀ (rw (answers-so-far k) (omega arith)));
         standing = em ∙ ap (λ (m : List ℕ). marksAfter t m (proposalIn bytes k)) (a .standing) ∙ sym (final-more t marks₀ (proposalsTo bytes k) (proposalIn bytes k))
             ∙ ap (finalMarks t marks₀) (sym (tabulate-more k (proposalIn bytes)));
+        area = ew;
       }
         where
           before : List ℕ
@@ -135,5 +160,16 @@ module _ (t : Table) (bytes marks₀ answers₀ : List ℕ) where
 
     pub answering-ends : length bytes / 8 ≤ k
         → (count ≡ taken (answersTo t marks₀ (proposalsIn bytes))) × (answers ≡ written (answersTo t marks₀ (proposalsIn bytes)) answers₀) × (marks ≡ finalMarks t marks₀ (proposalsIn bytes))
+        × (work ≡ workArea t ids marks)
     unfolding proposalsIn
-    answering-ends l = rw (le-antisymm l (a .upto)) (a .counted, a .given, a .standing)
+    answering-ends l = rw (le-antisymm l (a .upto)) (a .counted, a .given, a .standing, a .area)
+
+-- so growing rests on the same after each proposal
+pub still-area : {rows proposals work₀ marks₀ answers₀ : List ℕ} {ids : ℕ} → Area rows work₀ marks₀ ids
+    → {k count : ℕ} {answers marks work : List ℕ} → Answered (tableIn rows) ids proposals marks₀ answers₀ k count answers marks work → Area rows work marks ids
+still-area {rows} {proposals} {marks₀ = marks₀} {answers₀} {ids} s a = record {
+  few = s .few;
+  closed = s .closed;
+  each = marks-length (tableIn rows) ids proposals marks₀ answers₀ a ∙ s .each;
+  holds = a .area;
+}

@@ -12,6 +12,7 @@ use Rattle.rules.specs.Laws.Count.{count-more, count-not}
 use Rattle.rules.specs.Laws.Lists.{Among, in-pick, pick-length}
 use Rattle.table.specs.Ground.{Ground, neighbour-below, neighbour-listed}
 use Rattle.table.specs.Rows.{rowsIn}
+use Rattle.tallies.specs.Area.{Area, area-ground}
 
 -- its mark and those across can be asked
 pub record Surrounded (neighbours marks : List ℕ) (r : ℕ) : Type 0 where
@@ -25,6 +26,9 @@ ground-surrounds marks r ground m l = record {
   listed = λ c k. neighbour-listed ground r c l k;
   across = λ c k. omega (arith, neighbour-below ground r c l k);
 }
+
+pub area-surrounds : {rows work marks : List ℕ} {ids : ℕ} → Area rows work marks ids → (r : ℕ) → r < rowsIn rows → Surrounded work marks r
+area-surrounds {marks = marks} a r l = ground-surrounds marks r (area-ground a) (omega (arith, a .each)) l
 
 pub corner-asked : {neighbours marks : List ℕ} {r : ℕ} → Surrounded neighbours marks r → (c : ℕ) → c < 4
     → (4 * r + c < length neighbours) × (r < length marks) × (getD neighbours (4 * r + c) 0 < length marks)

@@ -20,6 +20,7 @@ ghost use Rattle.rules.specs.Proposals.{insideIn};
 ghost use Rattle.table.specs.Rows.{tableIn, rowsIn};
 ghost use Rattle.table.specs.Ground.{ClosedGround};
 ghost use Rattle.skin.specs.Between.{between};
+ghost use Rattle.tallies.specs.Area.{Area};
 ghost use Rattle.growth.specs.Around.{Surrounded, Counted};
 ghost use Rattle.growth.specs.Cases.{answerOf};
 
@@ -80,23 +81,24 @@ fn unless_free(free: bool, case: Local) -> Local
 
 pub(crate) fn local_test(
     rows: &[u8],
-    neighbours: &[u32],
+    work: &[u32],
+    ids: usize,
     marks: &[u8],
     adding: bool,
     row: usize,
 ) -> Local
-    requires { ⌜ ClosedGround (now rows) (now neighbours) × (rowsIn (now rows) ≤ length (now marks)) × (row < rowsIn (now rows)) ⌝ }
+    requires { ⌜ Area (now rows) (now work) (now marks) ids × (row < rowsIn (now rows)) ⌝ }
     ensures { λ r. ⌜ answerOf r ≡ caseAnswer (tableIn (now (rows .entry))) (insideIn (now (marks .entry))) adding row ⌝ }
 {
-    let skin = left_out(neighbours, marks, row);
+    let skin = left_out(work, marks, row);
     let f = skin.count;
     match f {
-        0 => unless_free(vertices_free(rows, marks, adding, row), Local::Vertices),
+        0 => unless_free(vertices_free(rows, work, ids, adding, row), Local::Vertices),
         1 => unless_free(
-            vertex_free(rows, marks, adding, row, skin.last),
+            vertex_free(rows, work, ids, adding, row, skin.last),
             Local::Opposite,
         ),
-        2 => unless_free(edge_free(rows, neighbours, marks, adding, row), Local::Edge),
+        2 => unless_free(edge_free(rows, work, marks, adding, row), Local::Edge),
         _ => Local::Passes,
     }
 }

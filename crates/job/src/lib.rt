@@ -106,12 +106,12 @@ impl Header {
         self.points_at() + self.point_bytes()
     }
 
-    // Work words: a neighbour for each corner.
+    // Work words: a neighbour for each corner, and two tallies for each id.
     pub fn work_room(self) -> usize
-        requires { ⌜ self .rows ≤ mostRows ⌝ }
+        requires { ⌜ (self .ids ≤ mostIds) × (self .rows ≤ mostRows) ⌝ }
         ensures { λ r. ⌜ r ≡ workRoom track (meant self) ⌝ }
     {
-        4 * self.rows
+        4 * self.rows + 2 * self.ids
     }
 
     // Triangle words: at most two triangles a row, three ids each.
@@ -187,7 +187,7 @@ pub fn room_short(
     triangles: usize,
     work: usize,
 ) -> bool
-    requires { ⌜ h .rows ≤ mostRows ⌝ }
+    requires { ⌜ (h .ids ≤ mostIds) × (h .rows ≤ mostRows) ⌝ }
     ensures { λ r. ⌜ r ≡ shortRooms track (meant h) answers «final_marks» triangles work ⌝ }
 {
     (answers < h.proposals)

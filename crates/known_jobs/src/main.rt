@@ -68,12 +68,12 @@ fn show(
 
 // Lends so many answers, final marks, triangle words and work words.
 fn lend(name: &[u8], job: &[u8], answers: usize, marks: usize, triangles: usize, work: usize)
-    requires { ⌜ (answers ≤ 8) × (marks ≤ 13) × (triangles ≤ 73) × (work ≤ 49) ⌝ }
+    requires { ⌜ (answers ≤ 8) × (marks ≤ 13) × (triangles ≤ 73) × (work ≤ 63) ⌝ }
 {
     let mut answer_room = [9u8; 8];
     let mut mark_room = [9u8; 13];
     let mut triangle_room = [9u32; 73];
-    let mut work_room = [9u32; 49];
+    let mut work_room = [9u32; 63];
     show(
         name,
         job,
@@ -85,24 +85,24 @@ fn lend(name: &[u8], job: &[u8], answers: usize, marks: usize, triangles: usize,
 }
 
 fn main() {
-    lend(b"A", &A, 8, 6, 31, 21);
-    lend(b"B", &B, 8, 13, 73, 49);
-    lend(b"A, answers one short", &A, 6, 6, 31, 21);
-    lend(b"A, final marks one short", &A, 8, 4, 31, 21);
-    lend(b"A, triangles one short", &A, 8, 6, 29, 21);
-    lend(b"A, work one short", &A, 8, 6, 31, 19);
+    lend(b"A", &A, 8, 6, 31, 31);
+    lend(b"B", &B, 8, 13, 73, 63);
+    lend(b"A, answers one short", &A, 6, 6, 31, 31);
+    lend(b"A, final marks one short", &A, 8, 4, 31, 31);
+    lend(b"A, triangles one short", &A, 8, 6, 29, 31);
+    lend(b"A, work one short", &A, 8, 6, 31, 29);
     let under = 31;
-    lend(b"A, 31 bytes", &A[..under], 8, 6, 31, 21);
+    lend(b"A, 31 bytes", &A[..under], 8, 6, 31, 31);
     let cut = 172;
-    lend(b"A, cut by a byte", &A[..cut], 8, 6, 31, 21);
+    lend(b"A, cut by a byte", &A[..cut], 8, 6, 31, 31);
     let mut v6 = A;
     v6[0] = 6;
-    lend(b"A, V 6", &v6, 8, 6, 31, 21);
+    lend(b"A, V 6", &v6, 8, 6, 31, 33);
     let mut n4 = A;
     n4[4] = 4;
-    lend(b"A, N 4", &n4, 8, 6, 31, 21);
+    lend(b"A, N 4", &n4, 8, 6, 31, 31);
     let mut n2049 = A;
     n2049[4] = 1;
     n2049[5] = 8;
-    lend(b"A, N 2049", &n2049, 8, 6, 31, 21);
+    lend(b"A, N 2049", &n2049, 8, 6, 31, 31);
 }

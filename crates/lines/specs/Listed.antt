@@ -34,7 +34,7 @@ pub listed : (job : List ℕ) {text out out′ : List ℕ} {n : ℕ} → text �
 listed job e p room = rw (← e) (put-front p (omega (arith, p .behind)))
 
 module _ (job : List ℕ) {o : Outcome} {answers marks triangles work : List ℕ}
-    (is : result o (lent answers marks triangles work) ≡ run track job (lent (replicate 1024 0) (replicate 2048 0) (replicate 12288 0) (replicate 8192 0))) where
+    (is : result o (lent answers marks triangles work) ≡ run track job (lent (replicate 1024 0) (replicate 2048 0) (replicate 12288 0) (replicate 10240 0))) where
   is-run : result o (lent answers marks triangles work) ≡ run track job zeros
   unfolding zeros
   is-run = is

@@ -46,7 +46,7 @@ pub fn list_job(job: &[u8], out: &mut [u8]) -> usize
     let mut answers = [0u8; 1024];
     let mut final_marks = [0u8; 2048];
     let mut triangles = [0u32; 12288];
-    let mut work = [0u32; 8192];
+    let mut work = [0u32; 10240];
     let r = run(
         job,
         &mut answers,

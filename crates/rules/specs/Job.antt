@@ -7,13 +7,14 @@ use lib.Dec.{eqb, leb, ltb}
 use lib.ListN.{length, getD, take, drop, replicate}
 use Rattle.rules.specs.Below.{lowest, tabulate}
 use Rattle.rules.specs.Words.{word}
-use Rattle.rules.specs.Table.{Table, tableOf, rising, idsBelow, before, outer, neighbourList, trianglesShared, edgesJoined, verticesJoined}
+use Rattle.rules.specs.Table.{Table, tableOf, rising, idsBelow, before, outer, trianglesShared, edgesJoined, verticesJoined}
 use Rattle.rules.specs.Skin.{ringless, clean, skinAs, skin}
 use Rattle.rules.specs.Points.{Point, pointIn}
 use Rattle.rules.specs.Outward.{offGrid, flat, folded, triangleAs}
 use Rattle.rules.specs.First.{Test, given, Verdict, firstMatch}
 use Rattle.rules.specs.Proposals as P
 use Rattle.rules.specs.Proposals.{Proposal, insideIn, answersTo, taken}
+use Rattle.rules.specs.Work.{workArea}
 
 -- ---- the file: a header of counts and offsets
 
@@ -158,6 +159,10 @@ listedWith outward job marks = skinAs (job .table) (insideIn marks) (triangleAs 
 abbrev pub cleanWith : Job → List ℕ → Bool
 cleanWith job marks = clean (job .table) (insideIn marks) (job .ids)
 
+-- the work area for such marks
+abbrev pub workWith : Job → List ℕ → List ℕ
+workWith job marks = workArea (job .table) (job .ids) marks
+
 -- the skin after the last proposal in the order asked for
 abbrev pub listedOf : Job → List (List ℕ)
 listedOf job = listedWith (job .outward) job (finalOf job)
@@ -170,9 +175,9 @@ pub record Lent : Type 0 where
   pub triangles : List ℕ
   pub work : List ℕ
 
--- a neighbour for each corner of a row
+-- a neighbour for each corner of a row, and two tallies for each id
 abbrev pub workRoom : Form → Header → ℕ
-workRoom f h = f .corners * h .rows
+workRoom f h = f .corners * h .rows + 2 * h .ids
 
 -- the skin list: at most half of the triangles of all rows, an id for each of a triangle's corners
 abbrev pub listRoom : Form → Header → ℕ
@@ -283,7 +288,7 @@ pub record Result : Type 0 where
   -- the four buffers as left
   pub left : Lent
 
--- Code 0: P answers, N marks, the skin in the order asked for and the neighbour list at the front of their buffers.
+-- Code 0: P answers, N marks, the skin in the order asked for and the work area for these marks at the front of their buffers.
 unfoldable pub accepted : Job → Lent → Result
 accepted job lent =
     let answers = answersOf job in
@@ -298,7 +303,7 @@ accepted job lent =
         answers = written answers (lent .answers);
         finalMarks = written final (lent .finalMarks);
         triangles = written (flatten skinList) (lent .triangles);
-        work = written (neighbourList (job .table)) (lent .work);
+        work = written (workWith job final) (lent .work);
       };
     }
 

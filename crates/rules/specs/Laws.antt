@@ -10,6 +10,7 @@
 --     First      first match decides
 --     Cases      the five cases, and the answer of each
 --     Proposals  answers and marks, one proposal more
+--     Work       corner tallies: none, one row more, one side and the other
 --     Words      numbers in bytes
 --     Written    a list at the front of a buffer
 --     Copied     a list copied to the front of a buffer, number by number
@@ -27,6 +28,7 @@ pub mod Shape
 pub mod First
 pub mod Cases
 pub mod Proposals
+pub mod Work
 pub mod Words
 pub mod Written
 pub mod Copied

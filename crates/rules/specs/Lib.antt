@@ -1,4 +1,4 @@
--- What document 01 means, with requests (i) to (vi) of document 02, from the bottom up, in their words, each idea in one place:
+-- What document 01 means, with requests (i) to (vii) of document 02, from the bottom up, in their words, each idea in one place:
 --     Below       numbers below a bound: lowest, any, all, count, pick, tabulate
 --     Words       numbers in bytes, low byte first
 --     Shape       corners, triangles and edges of a row, by position
@@ -10,6 +10,7 @@
 --     First       first match decides
 --     Cases       the five cases, and the answer of each that refuses
 --     Proposals   answers, and the marks after them
+--     Work        the work area: the neighbour list and the corner tallies
 --     Job         the file, the fifteen codes, the lent buffers, the run
 --     Made        job files made from their parts
 --     Stl         binary STL: the file, the facet writer, the reader, the job's writer
@@ -26,6 +27,7 @@ pub mod Outward
 pub mod First
 pub mod Cases
 pub mod Proposals
+pub mod Work
 pub mod Job
 pub mod Made
 pub mod Stl

@@ -10,6 +10,7 @@
 --     Ring        one ring, clean
 --     Answers     the tests of a proposal and the five cases
 --     Codes       each code exactly in its case, and what it leaves
+--     Work        what each word of the work area says
 --     Room        at most 2N triangles, each once
 --     Listing     the skin list: the triangles between the sides, from either row
 --     Outward     triangles that pass from an id to another, and that face outward
@@ -27,6 +28,7 @@ pub mod Points
 pub mod Ring
 pub mod Answers
 pub mod Codes
+pub mod Work
 pub mod Room
 pub mod Listing
 pub mod Outward

@@ -19,6 +19,7 @@ use Rattle.rules.specs.Outward.{product, sideOf, onTriangle, fourthId, f
 use Rattle.rules.specs.First.{given, firstMatch}
 use Rattle.rules.specs.Cases.{otherSide, free, trianglesOnSkin, passes, refusesAt, caseTests}
 use Rattle.rules.specs.Proposals.{insideIn, adds, answerTests, answer, marksAfter, answersTo, finalMarks, taken}
+use Rattle.rules.specs.Work.{tally, workArea}
 use Rattle.rules.specs.Job.{Lent, Result, track, headerOf, hasPoints, asksOutward, pointBytes, withinLimits, laidOut, rowsTable, proposalIn, pointsOf, jobOf, shortRooms, roomShort, written, layoutTests, roomTests, tableTests, unlike, markTests, shown, pointTests, jobTests, accepted, refused, verdictOn, run}
 
 -- ---- a job's bytes
@@ -33,22 +34,22 @@ job ids rows marks proposals = header ids (length rows / 4) (length proposals / 
 
 -- ---- what is lent, and what comes back
 
--- the four buffers for n rows and p proposals, each one longer than needed and filled with 9s
-abbrev pub lend : ℕ → ℕ → Lent
-lend n p = record {
+-- the four buffers for V ids, n rows and p proposals, each one longer than needed and filled with 9s
+abbrev pub lend : ℕ → ℕ → ℕ → Lent
+lend ids n p = record {
   answers = replicate (p + 1) 9;
   finalMarks = replicate (n + 1) 9;
   triangles = replicate (6 * n + 1) 9;
-  work = replicate (4 * n + 1) 9;
+  work = replicate (4 * n + 2 * ids + 1) 9;
 }
 
 -- so long a buffer with these at its front, and 9s after them
 abbrev pub front : ℕ → List ℕ → List ℕ
 front size xs = xs ++ replicate (size - length xs) 9
 
--- code 0: the number of proposals taken and of skin triangles, then the answers, the final marks, the skin and the neighbour list
+-- code 0: the number of proposals taken and of skin triangles, then the answers, the final marks, the skin and the work area
 abbrev pub done : ℕ → ℕ → List ℕ → List ℕ → List ℕ → List ℕ → Result
-done taken triangles answers marks skin neighbours =
+done taken triangles answers marks skin work =
     let n = length marks in
     record {
       code = 0;
@@ -59,13 +60,13 @@ done taken triangles answers marks skin neighbours =
         answers = front (length answers + 1) answers;
         finalMarks = front (n + 1) marks;
         triangles = front (6 * n + 1) skin;
-        work = front (4 * n + 1) neighbours;
+        work = front (length work + 1) work;
       };
     }
 
--- a refusal of a job of n rows and p proposals, by its code and place
-abbrev pub refusal : ℕ → ℕ → ℕ → ℕ → Result
-refusal n p code place = record {
+-- a refusal of a job of V ids, n rows and p proposals, by its code and place
+abbrev pub refusal : ℕ → ℕ → ℕ → ℕ → ℕ → Result
+refusal ids n p code place = record {
   code = code;
   place = place;
   taken = 0;
@@ -74,7 +75,7 @@ refusal n p code place = record {
     answers = replicate (p + 1) 9;
     finalMarks = replicate (n + 1) 9;
     triangles = replicate (6 * n + 1) 9;
-    work = cond (leb code 4) (replicate (4 * n + 1) 9) (front (4 * n + 1) (replicate (4 * n) 0));
+    work = cond (leb code 4) (replicate (4 * n + 2 * ids + 1) 9) (front (4 * n + 2 * ids + 1) (replicate (4 * n + 2 * ids) 0));
   };
 }
 
@@ -85,7 +86,7 @@ pub record Worked : Type 0 where
   pub result : Result
 
 unfoldable pub ran : Worked → Result
-unfolding withinLimits orElse found lowest any all allBut bit sum count gather tabulate only pick word facet edgeTable vertices those unreached none-left connected tableOf rising idsBelow before holds outer side neighbours across neighbourList trianglesShared holdsFace faceJoined facesJoined edgesJoined verticesJoined onSkin different holdsThree farEdge farEnd oneRing skinVertex ringless triangle skinOf skinAs signed coordinate pointIn inRange onGrid belowZero aboveZero isZero sameSign atOrigin from triple volume product sideOf onTriangle fourthId farId offGrid flat sameSide folded rightWay exchanged triangleAs given firstMatch otherSide free trianglesOnSkin passes refusesAt caseTests insideIn adds answerTests answer marksAfter answersTo finalMarks taken headerOf hasPoints asksOutward pointBytes laidOut rowsTable proposalIn pointsOf jobOf shortRooms roomShort written layoutTests roomTests tableTests unlike markTests shown pointTests jobTests accepted refused verdictOn run flatten
+unfolding withinLimits orElse found lowest any all allBut bit sum count gather tabulate only pick word facet edgeTable vertices those unreached none-left connected tableOf rising idsBelow before holds outer side neighbours across neighbourList trianglesShared holdsFace faceJoined facesJoined edgesJoined verticesJoined onSkin different holdsThree farEdge farEnd oneRing skinVertex ringless triangle skinOf skinAs signed coordinate pointIn inRange onGrid belowZero aboveZero isZero sameSign atOrigin from triple volume product sideOf onTriangle fourthId farId offGrid flat sameSide folded rightWay exchanged triangleAs given firstMatch otherSide free trianglesOnSkin passes refusesAt caseTests insideIn adds answerTests answer marksAfter answersTo finalMarks taken tally workArea headerOf hasPoints asksOutward pointBytes laidOut rowsTable proposalIn pointsOf jobOf shortRooms roomShort written layoutTests roomTests tableTests unlike markTests shown pointTests jobTests accepted refused verdictOn run flatten
 ran w = run track (w .bytes) (w .lent)
 
 abbrev pub known : Worked → Result
@@ -94,15 +95,15 @@ known w = w .result
 abbrev pub accepts : ℕ → List ℕ → List ℕ → List ℕ → Result → Worked
 accepts ids rows marks proposals result = record {
   bytes = job ids rows marks proposals;
-  lent = lend (length rows / 4) (length proposals / 2);
+  lent = lend ids (length rows / 4) (length proposals / 2);
   result = result;
 }
 
 abbrev pub refuses : ℕ → List ℕ → List ℕ → List ℕ → ℕ → ℕ → Worked
 refuses ids rows marks proposals code place = record {
   bytes = job ids rows marks proposals;
-  lent = lend (length rows / 4) (length proposals / 2);
-  result = refusal (length rows / 4) (length proposals / 2) code place;
+  lent = lend ids (length rows / 4) (length proposals / 2);
+  result = refusal ids (length rows / 4) (length proposals / 2) code place;
 }
 
 -- a refusal of these bytes that leaves all four buffers as they were lent

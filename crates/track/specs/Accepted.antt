@@ -3,9 +3,8 @@ use mathlib.Core.Path.{_≡_, sym, ap, _∙_}
 use mathlib.Core.List.{List, flatten}
 use Prim.Native.Nat.{ℕ}
 use lib.ListN.{length}
-use Rattle.rules.specs.Table.{neighbourList}
 use Rattle.rules.specs.Proposals.{taken}
-use Rattle.rules.specs.Job.{track, Job, jobOf, answersOf, finalOf, listedOf, Lent, written, Result, accepted, run}
+use Rattle.rules.specs.Job.{track, Job, jobOf, answersOf, finalOf, listedOf, workWith, Lent, written, Result, accepted, run}
 use Rattle.rules.specs.Reading.Closed.{Closed}
 use Rattle.rules.specs.Reading.Codes.{run-accepted, run-code, accepted-closed}
 use Rattle.track.specs.declared.Outcome.{Outcome}
@@ -36,7 +35,7 @@ module _ (bytes : List ℕ) (before : Lent) {o : Outcome} {after : Lent} (ran : 
   unfolding accepted
   triangles-are = ap (λ (r : Result). r .left .triangles) is
 
-  pub work-is : after .work ≡ written (neighbourList (job .table)) (before .work)
+  pub work-is : after .work ≡ written (workWith job (finalOf job)) (before .work)
   unfolding accepted
   work-is = ap (λ (r : Result). r .left .work) is
 

@@ -11,12 +11,12 @@ use lib.ListN.{length, take, drop}
 use lib.Seq.{length-take-le}
 use borrow.Author.Tests.{ne-eqb, le-leb}
 use Rattle.rules.specs.Below.{found}
-use Rattle.rules.specs.Table.{tableOf, neighbourList}
+use Rattle.rules.specs.Table.{tableOf}
 use Rattle.rules.specs.First.{Test, given, Verdict, firstMatch}
-use Rattle.rules.specs.Job.{track, headerOf, withinLimits, laidOut, shortRooms, roomShort, mostRows, workRoom, rowsTable, jobOf, layoutTests, roomTests, sectionTests, jobTests, Lent, refused, Result, verdictOn, run}
+use Rattle.rules.specs.Job.{track, headerOf, withinLimits, laidOut, shortRooms, roomShort, mostIds, mostRows, workRoom, rowsTable, jobOf, finalOf, workWith, layoutTests, roomTests, sectionTests, jobTests, Lent, refused, Result, verdictOn, run}
 use Rattle.rules.specs.Laws.Truth.{not-both}
 use Rattle.rules.specs.Laws.First.{match-append, match-below, match-front, match-here, match-later}
-use Rattle.rules.specs.Reading.Closed.{list-length}
+use Rattle.rules.specs.Reading.Work.{work-length}
 use Rattle.rules.specs.Reading.Codes.{limits-read, laid-out-reads, RoomShort, room-reads}
 use Rattle.job.specs.declared.Header.{Header}
 use Rattle.job.specs.declared.Reading.{Reading}
@@ -46,8 +46,8 @@ module _ (job : List ℕ) (buffers : Lent) where
     facts : (h ≡ header job) × (withinLimits track (headerOf job) ≡ true) × (laidOut track (headerOf job) job ≡ true)
     facts = laid-header job is laid
 
-    pub few-rows : h .rows ≤ mostRows
-    few-rows = let ((_, (_, n)), _) = limits-read track (headerOf job) .0 (facts .1) in rw (facts .0) n
+    pub few-ids-and-rows : (h .ids ≤ mostIds) × (h .rows ≤ mostRows)
+    few-ids-and-rows = let (((_, ids), (_, rows)), _) = limits-read track (headerOf job) .0 (facts .1) in rw (facts .0) (ids, rows)
 
     from-room : verdictOn track job buffers ≡ firstMatch 4 (roomTests track (headerOf job) buffers ++ rest)
     unfolding verdictOn jobTests layoutTests
@@ -92,15 +92,15 @@ module _ (job : List ℕ) (buffers : Lent) where
               work-room = length-take-le (workRoom track (meant h)) (buffers .work) work-fits;
             }
 
-        list-fits : length (neighbourList (jobOf track job .table)) ≤ workRoom track (meant h)
+        area-fits : length (workWith (jobOf track job) (finalOf (jobOf track job))) ≤ workRoom track (meant h)
         unfolding jobOf rowsTable tableOf
-        list-fits = rw (list-length (jobOf track job .table)) (rw (facts .0) (le-refl (workRoom track (headerOf job))))
+        area-fits = rw (work-length (jobOf track job .table) (jobOf track job .ids) (finalOf (jobOf track job))) (rw (facts .0) (le-refl (workRoom track (headerOf job))))
 
         pub room-enough : {r : Result} → r ≡ fromTable h (jobOf track job) needed → withRest (drop (workRoom track (meant h)) (buffers .work)) r ≡ run track job buffers
         unfolding roomTests given found
         room-enough e =
             ap (withRest (drop (workRoom track (meant h)) (buffers .work))) e
-            ∙ front-decides h (sectionTests (jobOf track job)) 5 (lit≤ tt) (jobOf track job) list-fits (buffers .answers) (buffers .finalMarks) (buffers .triangles) (buffers .work) work-fits
+            ∙ front-decides h (sectionTests (jobOf track job)) 5 (lit≤ tt) (jobOf track job) area-fits (buffers .answers) (buffers .finalMarks) (buffers .triangles) (buffers .work) work-fits
             ∙ ap (λ (x : Header). fromTable x (jobOf track job) buffers) (facts .0)
             ∙ ap (λ (v : Verdict). decided (headerOf job) v (jobOf track job) buffers)
             (sym (from-room ∙ match-later 4 _ _ (ap (λ (b : Bool). found b 0) (sym short-is ∙ off))))

@@ -12,13 +12,14 @@ use borrow.Author.Tests.{ne-eqb}
 use Rattle.rules.specs.First.{Test, Verdict, firstMatch}
 use Rattle.rules.specs.Table.{neighbourList}
 use Rattle.rules.specs.Job as rules
-use Rattle.rules.specs.Job.{track, rowsAt, marksAt, proposalsAt, pointsAt, pointBytes, pointsOf, Job, jobOf, Lent, workRoom, written, tableTests, Result, accepted, refused}
+use Rattle.rules.specs.Job.{track, rowsAt, marksAt, proposalsAt, pointsAt, pointBytes, pointsOf, Job, jobOf, finalOf, workWith, Lent, workRoom, written, tableTests, Result, accepted, refused}
 use Rattle.rules.specs.Laws.Truth.{same-or-not}
 use Rattle.rules.specs.Laws.First.{match-append, match-front}
 use Rattle.rules.specs.Laws.Lists.{part-length}
 use Rattle.rules.specs.Laws.Written.{written-length, written-at, written-over}
 use Rattle.rules.specs.Reading.Closed.{Closed, list-length, list-at}
 use Rattle.rules.specs.Reading.Codes.{closed-reads}
+use Rattle.rules.specs.Reading.Work.{list-shorter}
 use Rattle.job.specs.declared.Header.{Header}
 use Rattle.job.specs.Reading.{meant}
 use Rattle.table.specs.declared.Broken.{Broken}
@@ -51,18 +52,21 @@ left-closed (Vertex r) work z = absurd (omega arith)
 
 -- what was written to work before is written over
 same-left : (h : rules.Header) (tests : List Test) (code : ℕ) → 5 ≤ code → (job : Job) (answers final triangles work work₀ : List ℕ)
-    → workRoom track h ≡ length (neighbourList (job .table)) → work ≡ written (neighbourList (job .table)) work₀
+    → length (neighbourList (job .table)) ≤ workRoom track h → work ≡ written (neighbourList (job .table)) work₀
     → decided h (firstMatch code tests) job (lent answers final triangles work) ≡ decided h (firstMatch code tests) job (lent answers final triangles work₀)
 unfolding decided accepted refused
 same-left h tests code l job answers final triangles work work₀ fits ew =
-    ⊎-elim (λ (z : firstMatch code tests .code ≡ 0). rw (z, ew, written-over list list work₀ (le-refl (length list))))
+    ⊎-elim (λ (z : firstMatch code tests .code ≡ 0). rw (z, ew, written-over area list work₀ (list-shorter (job .table) (job .ids) (finalOf job))))
     (λ (ne : firstMatch code tests .code ≡ 0 → ⊥). rw (ne-eqb (firstMatch code tests .code) 0 ne, late code l tests ne, ew, over)) (same-or-not (firstMatch code tests .code) 0)
   where
     list : List ℕ
     list = neighbourList (job .table)
 
+    area : List ℕ
+    area = workWith job (finalOf job)
+
     over : written (replicate (workRoom track h) 0) (written list work₀) ≡ written (replicate (workRoom track h) 0) work₀
-    over = written-over (replicate (workRoom track h) 0) list work₀ (rw (length-replicate {A = ℕ} (workRoom track h) 0, fits) (le-refl (length list)))
+    over = written-over (replicate (workRoom track h) 0) list work₀ (rw (length-replicate {A = ℕ} (workRoom track h) 0) fits)
 
 module _ {h : Header} {job : List ℕ} {buffers : Lent} (l : Laid h job buffers)
     {a b c d : ℕ} (ea : a ≡ rowsAt) (eb : b ≡ marksAt track (meant h)) (ec : c ≡ proposalsAt track (meant h)) (ed : d ≡ pointsAt track (meant h)) where
@@ -81,11 +85,11 @@ module _ {h : Header} {job : List ℕ} {buffers : Lent} (l : Laid h job buffers)
 
   module _ (broken : Broken) (found : verdictOf broken ≡ firstMatch 5 (tableTests (tableIn rows) (h .ids))) {o : Outcome} (told : o ≡ refusal (verdictOf broken))
       {work : List ℕ} (left : work ≡ leftOf broken (written (neighbourList (tableIn rows)) (buffers .work))) where
-    list-fits : length (neighbourList (tableIn rows)) ≡ workRoom track (meant h)
-    list-fits = list-length (tableIn rows) ∙ ap (λ (n : ℕ). 4 * n) (counted job (l .is) (l .long) ea eb ec ed)
+    list-fits : length (neighbourList (tableIn rows)) ≤ workRoom track (meant h)
+    list-fits = omega (arith, list-length (tableIn rows), counted job (l .is) (l .long) ea eb ec ed)
 
     kept : length (written (neighbourList (tableIn rows)) (buffers .work)) ≡ length (buffers .work)
-    kept = written-length (neighbourList (tableIn rows)) (buffers .work) (rw (list-fits, l .work-room) (le-refl (workRoom track (meant h))))
+    kept = written-length (neighbourList (tableIn rows)) (buffers .work) (rw (l .work-room) list-fits)
 
     same-code : o .code ≡ verdictOf broken .code
     same-code = ap (λ (x : Outcome). x .code) told
@@ -119,7 +123,7 @@ module _ {h : Header} {job : List ℕ} {buffers : Lent} (l : Laid h job buffers)
       listed : work ≡ written (neighbourList (tableIn rows)) (buffers .work)
       listed = left ∙ left-closed broken (written (neighbourList (tableIn rows)) (buffers .work)) (sym same-code ∙ z)
 
-      pub work-long : length work ≡ workRoom track (meant h)
+      work-long : length work ≡ workRoom track (meant h)
       work-long = ap length listed ∙ kept ∙ l .work-room
 
       pub ready : Ready h rows marks proposals points (lent (buffers .answers) (buffers .finalMarks) (buffers .triangles) work)
@@ -129,7 +133,7 @@ module _ {h : Header} {job : List ℕ} {buffers : Lent} (l : Laid h job buffers)
         ground = record {
           few = rw (counted job (l .is) (l .long) ea eb ec ed) (l .few);
           paired = is-closed .paired;
-          room = rw ((counted job (l .is) (l .long) ea eb ec ed), work-long) (le-refl (workRoom track (meant h)));
+          room = omega (arith, counted job (l .is) (l .long) ea eb ec ed, work-long);
           at = λ r c lr lc.
               ap (λ (xs : List ℕ). getD xs (4 * r + c) 0) listed
               ∙ written-at (neighbourList (tableIn rows)) (buffers .work) (4 * r + c) (rw (list-length (tableIn rows)) (omega arith))
@@ -139,6 +143,8 @@ module _ {h : Header} {job : List ℕ} {buffers : Lent} (l : Laid h job buffers)
         points-long = ap length (points-is job (l .is) (l .long) ea eb ec ed) ∙ part-length job (pointsAt track (meant h)) (pointBytes track (meant h)) (omega (arith, l .long));
         listed = listed ∙ sym (ap (written (neighbourList (tableIn rows))) listed
             ∙ written-over (neighbourList (tableIn rows)) (neighbourList (tableIn rows)) (buffers .work) (le-refl (length (neighbourList (tableIn rows)))));
+        counted = counted job (l .is) (l .long) ea eb ec ed;
+        work-room = work-long;
         answer-room = rw (proposals-counted job (l .is) (l .long) ea eb ec ed) (l .answer-room);
         mark-room = rw (counted job (l .is) (l .long) ea eb ec ed) (l .mark-room);
         triangle-room = rw (counted job (l .is) (l .long) ea eb ec ed) (l .triangle-room);
@@ -150,7 +156,7 @@ module _ {h : Header} {job : List ℕ} {buffers : Lent} (l : Laid h job buffers)
       table-passed {r} e =
           e
           ∙ same-left (meant h) (laterTests (tableIn rows) (h .ids) marks (pointsOf track (meant h) points)) 10 (lit≤ tt) (jobIn h rows marks proposals points)
-          (buffers .answers) (buffers .finalMarks) (buffers .triangles) work (buffers .work) (sym list-fits) listed
+          (buffers .answers) (buffers .finalMarks) (buffers .triangles) work (buffers .work) list-fits listed
           ∙ ap (λ (v : Verdict). decided (meant h) v (jobIn h rows marks proposals points) buffers)
           (sym (match-append 5 (lit< tt) (tableTests (tableIn rows) (h .ids)) (laterTests (tableIn rows) (h .ids) marks (pointsOf track (meant h) points)) (ap (λ (v : Verdict). v .code) (sym found) ∙ sym same-code ∙ z)))
           ∙ ap (λ (j : Job). fromTable h j buffers) (job-is job (l .is) (l .long) ea eb ec ed)

@@ -1,5 +1,5 @@
 -- The run in stages: header and room, table, marks, points, proposals. Each says what is still to be decided when it begins.
-use mathlib.Core.Path.{_≡_, refl, sym, ap, ap₂, _∙_}
+use mathlib.Core.Path.{_≡_, refl, sym, ap, ap₂, _∙_, subst}
 use mathlib.Core.Logic.{⊎-elim, _≢_}
 use mathlib.Core.Bool.{Bool, true, false, _||_, cond}
 use mathlib.Core.Option.{Option, some, none}
@@ -17,19 +17,23 @@ use Rattle.rules.specs.Skin.{skinAs}
 use Rattle.rules.specs.Points.{Point, pointIn}
 use Rattle.rules.specs.Outward.{triangleAs}
 use Rattle.rules.specs.Proposals.{Proposal, insideIn, answersTo, finalMarks, taken}
+use Rattle.rules.specs.Work.{workArea}
 use Rattle.rules.specs.Job as rules
-use Rattle.rules.specs.Job.{track, headerOf, mostIds, mostRows, mostProposals, hasPoints, asksOutward, pointBytes, wholeLength, pointsOf, Job, jobOf, Lent, workRoom, listRoom, written, markTests, shown, pointTests, sectionTests, Result, accepted, refused, verdictOn, run}
+use Rattle.rules.specs.Job.{track, headerOf, mostIds, mostRows, mostProposals, hasPoints, asksOutward, pointBytes, wholeLength, pointsOf, Job, jobOf, finalOf, workWith, Lent, workRoom, listRoom, written, markTests, shown, pointTests, sectionTests, Result, accepted, refused, verdictOn, run}
 use Rattle.rules.specs.Laws.Truth.{same-or-not}
 use Rattle.rules.specs.Laws.Proposals.{final-length}
 use Rattle.rules.specs.Laws.First.{match-code, match-zero, match-append, match-front, match-parts}
 use Rattle.rules.specs.Laws.Written.{written-length, written-whole, written-front}
 use Rattle.rules.specs.Reading.Closed.{Closed}
+use Rattle.rules.specs.Reading.Work.{work-length}
 use Rattle.job.specs.declared.Header.{Header}
 use Rattle.job.specs.Reading.{meant, header}
 use Rattle.table.specs.Rows.{tableIn, rowsIn}
 use Rattle.table.specs.Ground.{Ground}
 use Rattle.rings.specs.Far.{Marked}
 use Rattle.points.specs.Grid.{Grid, none-off}
+use Rattle.tallies.specs.Counted.{Listed}
+use Rattle.tallies.specs.Area.{Area, area-ground}
 use Rattle.growth.specs.Answers.{proposalsIn}
 use Rattle.track.specs.declared.Outcome.{Outcome}
 use Rattle.track.specs.Outcomes.{lent, result, refusal}
@@ -66,8 +70,8 @@ fromMarks h job = decided (meant h) (firstMatch 10 (laterTests (job .table) (job
 
 -- ---- what each stage may rest on
 
--- a closed table whose neighbour list stands at the front of work, a mark for each row, points if the header says so, and room for what a
--- run leaves
+-- a closed table whose neighbour list stands at the front of work, as much work as is needed, a mark for each row, points if the header says
+-- so, and room for what a run leaves
 pub record Ready (h : Header) (rows marks proposals points : List ℕ) (buffers : Lent) : Type 0 where
   pub few-ids : h .ids ≤ mostIds
   pub closed : Closed (tableIn rows) (h .ids)
@@ -75,6 +79,8 @@ pub record Ready (h : Header) (rows marks proposals points : List ℕ) (buffers 
   pub each : length marks ≡ rowsIn rows
   pub points-long : length points ≡ pointBytes track (meant h)
   pub listed : buffers .work ≡ written (neighbourList (tableIn rows)) (buffers .work)
+  pub counted : rowsIn rows ≡ h .rows
+  pub work-room : length (buffers .work) ≡ workRoom track (meant h)
   pub answer-room : length proposals / 8 ≤ length (buffers .answers)
   pub mark-room : rowsIn rows ≤ length (buffers .finalMarks)
   pub triangle-room : 6 * rowsIn rows ≤ length (buffers .triangles)
@@ -197,13 +203,13 @@ withRest rest r = record {
   left = lent (r .left .answers) (r .left .finalMarks) (r .left .triangles) (r .left .work ++ rest);
 }
 
-pub front-decides : (h : Header) (tests : List Test) (code : ℕ) → 5 ≤ code → (job : Job) → length (neighbourList (job .table)) ≤ workRoom track (meant h)
+pub front-decides : (h : Header) (tests : List Test) (code : ℕ) → 5 ≤ code → (job : Job) → length (workWith job (finalOf job)) ≤ workRoom track (meant h)
     → (answers final triangles work : List ℕ) → workRoom track (meant h) ≤ length work
     → withRest (drop (workRoom track (meant h)) work) (decided (meant h) (firstMatch code tests) job (lent answers final triangles (take (workRoom track (meant h)) work)))
     ≡ decided (meant h) (firstMatch code tests) job (lent answers final triangles work)
 unfolding decided accepted refused
 front-decides h tests code l job fits answers final triangles work room =
-    ⊎-elim (λ (z : firstMatch code tests .code ≡ 0). rw (z, written-front (neighbourList (job .table)) work (workRoom track (meant h)) fits room))
+    ⊎-elim (λ (z : firstMatch code tests .code ≡ 0). rw (z, written-front (workWith job (finalOf job)) work (workRoom track (meant h)) fits room))
     (λ (ne : firstMatch code tests .code ≡ 0 → ⊥).
     rw (ne-eqb (firstMatch code tests .code) 0 ne, late code l tests ne, written-front zeros work (workRoom track (meant h)) (rw full (le-refl (workRoom track (meant h)))) room))
     (same-or-not (firstMatch code tests .code) 0)
@@ -223,6 +229,10 @@ front-written xs d e = rw e (take-append-seam xs (drop (length xs) d))
 pub front-length : (xs d : List ℕ) {whole : List ℕ} → whole ≡ written xs d → length xs ≡ length (take (length xs) whole)
 front-length xs d e = rw e (ap length (sym (front-written xs d refl)))
 
+-- growing may rest on it
+pub front-area : {rows work marks : List ℕ} {ids : ℕ} → Area rows work marks ids → (final₀ : List ℕ) {whole : List ℕ} → whole ≡ written marks final₀ → Area rows work (take (length marks) whole) ids
+front-area {rows} {work} {marks} {ids} a final₀ copied = subst (λ (m : List ℕ). Area rows work m ids) (sym (rw copied (front-written marks final₀ refl))) a
+
 module _ (t : Table) (marks final₀ : List ℕ) (ps : List Proposal) {whole : List ℕ} (copied : whole ≡ written marks final₀) where
   front-is : take (length marks) whole ≡ marks
   front-is = rw copied (front-written marks final₀ refl)
@@ -230,13 +240,16 @@ module _ (t : Table) (marks final₀ : List ℕ) (ps : List Proposal) {whole : L
   -- the answers to proposals on the marks that were copied there, and what is left in the whole
   pub answered : (answers₀ : List ℕ) {r : ℕ} {answers left : List ℕ} → r ≡ taken (answersTo t (take (length marks) whole) ps)
       → answers ≡ written (answersTo t (take (length marks) whole) ps) answers₀ → left ≡ finalMarks t (take (length marks) whole) ps
+      → (ids : ℕ) {work : List ℕ} → work ≡ workArea t ids left
       → (r ≡ taken (answersTo t marks ps)) × (answers ≡ written (answersTo t marks ps) answers₀) × (left ++ drop (length marks) whole ≡ written (finalMarks t marks ps) final₀)
+      × (work ≡ workArea t ids (finalMarks t marks ps))
   unfolding written
-  answered answers₀ {left = left} er ea el = (
+  answered answers₀ {left = left} er ea el ids ew = (
     er ∙ ap (λ (m : List ℕ). taken (answersTo t m ps)) front-is,
     ea ∙ ap (λ (m : List ℕ). written (answersTo t m ps) answers₀) front-is,
     ap₂ (λ (x y : List ℕ). x ++ y) left-is (ap (drop (length marks)) copied ∙ drop-append-seam marks (drop (length marks) final₀))
         ∙ ap (λ (n : ℕ). finalMarks t marks ps ++ drop n final₀) (sym (final-length t marks ps)),
+    ew ∙ ap (workArea t ids) left-is,
   )
     where
       left-is : left ≡ finalMarks t marks ps
@@ -247,25 +260,42 @@ pub final-room : {h : Header} {rows marks proposals points : List ℕ} {buffers 
 final-room {rows = rows} {marks = marks} {proposals = proposals} {buffers = buffers} g e =
     rw (e, written-length (finalMarks (tableIn rows) marks (proposalsIn proposals)) (buffers .finalMarks) (rw (final-length (tableIn rows) marks (proposalsIn proposals), g .each) (g .mark-room))) (g .mark-room)
 
+-- the work area that is needed, and no more
+area-whole : {h : Header} {rows marks proposals points : List ℕ} {buffers : Lent} → Ready h rows marks proposals points buffers → (final : List ℕ)
+    → written (workArea (tableIn rows) (h .ids) final) (buffers .work) ≡ workArea (tableIn rows) (h .ids) final
+area-whole {h = h} {rows = rows} {buffers = buffers} g final =
+    written-whole (workArea (tableIn rows) (h .ids) final) (buffers .work) (omega (arith, work-length (tableIn rows) (h .ids) final, g .counted, g .work-room))
+
+-- what counting the rows rests on
+pub uncounted : {h : Header} {rows marks proposals points : List ℕ} {buffers : Lent} → Ready h rows marks proposals points buffers → Listed rows (buffers .work) marks (h .ids)
+uncounted g = record {
+  few = g .ground .few;
+  paired = g .ground .paired;
+  each = g .each;
+  list = g .listed;
+  long = omega (arith, g .counted, g .work-room);
+}
+
+-- what growing rests on, with the rows counted, and the list when it is done
+module _ {h : Header} {rows marks proposals points : List ℕ} {buffers : Lent} (g : Ready h rows marks proposals points buffers) where
+  pub counted-area : {work : List ℕ} → work ≡ workArea (tableIn rows) (h .ids) marks → Area rows work marks (h .ids)
+  counted-area e = record { few = g .ground .few; closed = g .closed; each = g .each; holds = e }
+
+  pub grown-ground : {work : List ℕ} → work ≡ workArea (tableIn rows) (h .ids) (finalMarks (tableIn rows) marks (proposalsIn proposals)) → Ground rows work (h .ids)
+  grown-ground e = area-ground (record { few = g .ground .few; closed = g .closed; each = final-length (tableIn rows) marks (proposalsIn proposals) ∙ g .each; holds = e })
+
 -- what an accepted job leaves, once its marks are answered and its skin is listed
 pub grown : {h : Header} {rows marks proposals points : List ℕ} {buffers : Lent} → Ready h rows marks proposals points buffers
-    → {count taken-count : ℕ} {answers final triangles : List ℕ}
-    → taken-count ≡ taken (answersTo (tableIn rows) marks (proposalsIn proposals)) → answers ≡ written (answersTo (tableIn rows) marks (proposalsIn proposals)) (buffers .answers)
-    → final ≡ written (finalMarks (tableIn rows) marks (proposalsIn proposals)) (buffers .finalMarks)
-    → count ≡ length (frontSkin h rows points final) → triangles ≡ written (flatten (frontSkin h rows points final)) (buffers .triangles)
-    → result (record { code = 0; place = 0; taken = taken-count; triangles = count }) (lent answers final triangles (buffers .work)) ≡ accepted (jobIn h rows marks proposals points) buffers
+    → {count taken-count : ℕ} {answers final triangles work : List ℕ}
+    → (taken-count ≡ taken (answersTo (tableIn rows) marks (proposalsIn proposals))) × (answers ≡ written (answersTo (tableIn rows) marks (proposalsIn proposals)) (buffers .answers))
+    × (final ≡ written (finalMarks (tableIn rows) marks (proposalsIn proposals)) (buffers .finalMarks)) × (work ≡ workArea (tableIn rows) (h .ids) (finalMarks (tableIn rows) marks (proposalsIn proposals)))
+    → (count ≡ length (frontSkin h rows points final)) × (triangles ≡ written (flatten (frontSkin h rows points final)) (buffers .triangles))
+    → result (record { code = 0; place = 0; taken = taken-count; triangles = count }) (lent answers final triangles work) ≡ accepted (jobIn h rows marks proposals points) buffers
 unfolding accepted
-grown {h = h} {rows = rows} {marks = marks} {proposals = proposals} {points = points} {buffers = buffers} g {final = final} et ea ef ec el =
-    rw (et, ea, ec, el, front, ef) (ap (λ (w : List ℕ). result (record { code = 0; place = 0; taken = taken given; triangles = length sk }) (lent (written given (buffers .answers)) (written ms (buffers .finalMarks)) (written (flatten sk) (buffers .triangles)) w)) (g .listed))
+grown {h = h} {rows = rows} {marks = marks} {proposals = proposals} {buffers = buffers} g {final = final} (et, ea, ef, ew) (ec, el) = rw (et, ea, ec, el, front, ef, ew, area-whole g ms)
   where
-    given : List ℕ
-    given = answersTo (tableIn rows) marks (proposalsIn proposals)
-
     ms : List ℕ
     ms = finalMarks (tableIn rows) marks (proposalsIn proposals)
-
-    sk : List (List ℕ)
-    sk = skinAs (tableIn rows) (insideIn ms) (triangleAs (tableIn rows) (asksOutward track (meant h)) (pointsOf track (meant h) points))
 
     front : take (rowsIn rows) final ≡ ms
     front = ap (take (rowsIn rows)) ef ∙ front-written ms (buffers .finalMarks) (sym (g .each) ∙ sym (final-length (tableIn rows) marks (proposalsIn proposals)))

@@ -17,7 +17,7 @@ ghost use mathlib.Core.Path.{_≡_};
 ghost use Prim.Native.Nat.{_≤_};
 ghost use lib.ListN.{length};
 ghost use Rattle.rules.specs.First.{firstMatch};
-ghost use Rattle.rules.specs.Job.{track, mostIds, pointBytes, pointsOf, workRoom, jobOf, pointTests, run};
+ghost use Rattle.rules.specs.Job.{track, mostIds, pointBytes, pointsOf, jobOf, pointTests, run};
 ghost use Rattle.job.specs.Reading.{meant};
 ghost use Rattle.table.specs.Closed as closed;
 ghost use Rattle.table.specs.Rows.{tableIn};
@@ -126,8 +126,7 @@ fn run_closed(
     triangles: &mut [u32],
     work: &mut [u32],
 ) -> Outcome
-    requires { ⌜ Ready h (now rows) (now marks) (now proposals) (now points) (lent (now answers) (now «final_marks») (now triangles) (now work))
-        × (length (now work) ≡ workRoom track (meant h)) ⌝ }
+    requires { ⌜ Ready h (now rows) (now marks) (now proposals) (now points) (lent (now answers) (now «final_marks») (now triangles) (now work)) ⌝ }
     ensures { λ r. ⌜ result r (lent (now (answers .exit)) (now («final_marks» .exit)) (now (triangles .exit)) (now (work .exit)))
         ≡ fromMarks h (jobIn h (now (rows .entry)) (now (marks .entry)) (now (proposals .entry)) (now (points .entry)))
         (lent (now (answers .entry)) (now («final_marks» .entry)) (now (triangles .entry)) (now (work .entry))) ⌝ }

@@ -13,19 +13,20 @@ use lib.Seq.{take-at, length-take-le}
 use borrow.Author.Tests.{ne-eqb, lt-ltb, le-ltb}
 use Rattle.rules.specs.Below.{found}
 use Rattle.rules.specs.First.{given, Verdict, firstMatch}
-use Rattle.rules.specs.Table.{Table, across, neighbourList}
+use Rattle.rules.specs.Table.{Table, across}
 use Rattle.rules.specs.Skin.{skinAs}
 use Rattle.rules.specs.Points.{Point, pointIn, onGrid}
 use Rattle.rules.specs.Outward.{triangleAs}
 use Rattle.rules.specs.Proposals.{insideIn}
-use Rattle.rules.specs.Job.{track, headerOf, mostIds, mostRows, mostProposals, hasPoints, asksOutward, pointBytes, rowsAt, marksAt, pointsAt, wholeLength, pointsOf, layoutTests, Job, jobOf, finalOf, listedWith, listedOf, Lent, written, run}
+use Rattle.rules.specs.Job.{track, headerOf, mostIds, mostRows, mostProposals, hasPoints, asksOutward, pointBytes, rowsAt, marksAt, pointsAt, wholeLength, pointsOf, layoutTests, Job, jobOf, finalOf, workWith, listedWith, listedOf, Lent, workRoom, written, run}
 use Rattle.rules.specs.Stl.{mostFacets, fileLength, fileOf, cornersOf, outwardSkin, skinFile, fileTests, unwritten, Exported, exported, writeSkin}
 use Rattle.rules.specs.Laws.First.{match-here, match-later, match-end}
 use Rattle.rules.specs.Laws.Job.{job-ids, job-corners, job-rows}
 use Rattle.rules.specs.Laws.Lists.{part-length}
 use Rattle.rules.specs.Laws.Proposals.{final-length}
 use Rattle.rules.specs.Laws.Written.{written-length, written-at, written-over}
-use Rattle.rules.specs.Reading.Closed.{Paired, Closed, list-length, list-at}
+use Rattle.rules.specs.Reading.Closed.{Paired, Closed}
+use Rattle.rules.specs.Reading.Work.{work-length, work-across}
 use Rattle.rules.specs.Reading.Codes.{RoomShort, layout-passed, accepted-room, accepted-grid, accepted-header, accepted-length}
 use Rattle.rules.specs.Reading.Room.{skin-same-length, skin-words, skin-fits}
 use Rattle.rules.specs.Reading.Outward.{three-each}
@@ -223,8 +224,8 @@ module _ (job : List ℕ) (before : Lent) {o : Outcome} {after : Lent} (run-is :
   final-long : length (finalOf the) ≡ headerOf job .rows
   final-long = final-length (the .table) (the .marks) (the .proposals) ∙ accepted-length track job before acc ∙ rows-are
 
-  list-long : length (neighbourList (the .table)) ≡ 4 * headerOf job .rows
-  list-long = list-length (the .table) ∙ rw (four, rows-are)
+  area-long : length (workWith the (finalOf the)) ≡ workRoom track (headerOf job)
+  area-long = work-length (the .table) (the .ids) (finalOf the) ∙ rw (four, rows-are, job-ids track job)
 
   marks-long : length (after .finalMarks) ≡ length (before .finalMarks)
   marks-long =
@@ -235,7 +236,7 @@ module _ (job : List ℕ) (before : Lent) {o : Outcome} {after : Lent} (run-is :
   triangles-long = ap length (triangles-are job before run-is zero-code) ∙ written-length (flatten (listedOf the)) (before .triangles) skin-fits-in
 
   work-long : length (after .work) ≡ length (before .work)
-  work-long = ap length (work-is job before run-is zero-code) ∙ written-length (neighbourList (the .table)) (before .work) (rw list-long (enough inr))
+  work-long = ap length (work-is job before run-is zero-code) ∙ written-length (workWith the (finalOf the)) (before .work) (rw area-long (enough inr))
 
   listed-still : after .triangles ≡ written (flatten (listedOf the)) (after .triangles)
   listed-still =
@@ -249,9 +250,9 @@ module _ (job : List ℕ) (before : Lent) {o : Outcome} {after : Lent} (run-is :
   neighbour-at : (r c : ℕ) → r < headerOf job .rows → c < 4 → getD (after .work) (4 * r + c) 0 ≡ across (the .table) r c
   neighbour-at r c lr lc =
       ap (λ (xs : List ℕ). getD xs (4 * r + c) 0) (work-is job before run-is zero-code)
-      ∙ written-at (neighbourList (the .table)) (before .work) (4 * r + c) (rw list-long (omega arith))
-      ∙ ap (λ (n : ℕ). getD (neighbourList (the .table)) (n * r + c) 0) (sym four)
-      ∙ list-at (the .table) r c (rw rows-are lr) (rw four lc)
+      ∙ written-at (workWith the (finalOf the)) (before .work) (4 * r + c) (rw area-long (omega arith))
+      ∙ ap (λ (n : ℕ). getD (workWith the (finalOf the)) (n * r + c) 0) (sym four)
+      ∙ work-across (the .table) (the .ids) (finalOf the) r c (rw rows-are lr) (rw four lc)
 
   pub ran-is : {h : Header} → h ≡ header job → Ran h job (after .finalMarks) (after .triangles) (after .work)
   ran-is e = rw e (
@@ -264,7 +265,7 @@ module _ (job : List ℕ) (before : Lent) {o : Outcome} {after : Lent} (run-is :
         few-proposals = proposals;
         long = sym whole ∙ six;
         paired = subst (Paired (the .table)) (job-ids track job) (job-closed job before run-is zero-code .paired);
-        work-room = rw work-long (enough inr);
+        work-room = omega (arith, work-long, enough {n = length (before .work)} {m = workRoom track (headerOf job)} inr);
         neighbours = neighbour-at;
         mark-room = rw marks-long (enough (λ x. inl (inl (inr x))));
         marks = marks-front;

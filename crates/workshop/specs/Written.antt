@@ -125,7 +125,7 @@ module _ (bytes : List ℕ) where
 -- ---- what is said of each answer
 
 module _ (job file : List ℕ) (room : 204884 ≡ length file) {o : Outcome} {left : Lent} {after : List ℕ}
-    (is : told o left after ≡ writeSkin track job (lent (replicate 1024 0) (replicate 2048 0) (replicate 12288 0) (replicate 8192 0)) file) where
+    (is : told o left after ≡ writeSkin track job (lent (replicate 1024 0) (replicate 2048 0) (replicate 12288 0) (replicate 10240 0)) file) where
   here : told o left after ≡ writeSkin track job zeros file
   unfolding zeros
   here = is

@@ -17,7 +17,7 @@ fn put_skin(job: &[u8], file: &mut [u8]) -> Said
     let mut answers = [0u8; 1024];
     let mut final_marks = [0u8; 2048];
     let mut triangles = [0u32; 12288];
-    let mut work = [0u32; 8192];
+    let mut work = [0u32; 10240];
     let r = write_skin(
         job,
         &mut answers,

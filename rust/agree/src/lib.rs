@@ -1,13 +1,14 @@
 //! Runs the proved engine and `plain` on the same job and compares the outcome
-//! and every byte and word of every lent buffer. A job that says it has points
-//! is run as it asks for each order, and its outward list is looked at by itself.
+//! and every byte and word of every lent buffer. The tallies that they leave are
+//! recounted. A job that says it has points is run as it asks for each order, and
+//! its outward list is looked at by itself.
 //! `stl` does the same for the STL calls, and `mesh` looks at a file by itself.
 
 pub mod mesh;
 pub mod stl;
 
 use common::{Buffers, Outcome};
-use jobs::{outward, rings, Job};
+use jobs::{outward, rings, tallies, Job};
 use std::fmt::Debug;
 use std::path::PathBuf;
 use std::{env, fs, thread};
@@ -45,6 +46,20 @@ impl Ran {
         let listed = 3 * self.outcome.triangles as usize;
         let (listed, behind) = self.left.triangles.split_at(listed);
         (listed.as_chunks().0, behind)
+    }
+
+    /// What is wrong with it by itself.
+    fn fault(&self, job: &[u8]) -> Option<String> {
+        if self.outcome.code != 0 {
+            return None;
+        }
+        let Some(job) = Job::from_bytes(job) else {
+            return Some("it is run and not laid out".to_string());
+        };
+        if self.triangles().0.as_flattened().contains(&0) {
+            return Some("id 0 is listed".to_string());
+        }
+        tallies::fault(&job, &self.left.final_marks, &self.left.work)
     }
 }
 
@@ -101,9 +116,8 @@ impl Comparer {
             outcome: track,
             left: by_track,
         };
-        let (listed, _) = ran.triangles();
-        if listed.as_flattened().contains(&0) {
-            self.disagree(name, kind, job, "id 0 is listed");
+        if let Some(fault) = ran.fault(job) {
+            self.disagree(name, kind, job, &fault);
         }
         ran
     }

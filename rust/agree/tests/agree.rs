@@ -66,7 +66,8 @@ fn large_jobs() {
             let with = with.map(|(family, placed)| (family, placed.table, Some(placed.points)));
             for (family, table, points) in without.chain(with) {
                 let case = cases::case_on(family, &table, points, random);
-                let buffers = random.buffers(case.rooms);
+                // By numbers of their own, so that the jobs don't hang on the rooms.
+                let buffers = Random::new(!number).buffers(case.rooms);
                 let name = format!("large-{number}-{}", family.replace(' ', "-"));
                 comparer.compare(&name, &case.kind, &case.job, &buffers);
             }
@@ -81,7 +82,7 @@ fn large_jobs() {
             } = comparer;
             assert!(codes[0] >= 60, "{codes:?}");
             assert!(turned.iter().all(|&lists| lists >= 5), "{turned:?}");
-            assert!(comparer.each_answer(50), "{answers:?}");
+            assert!(comparer.each_answer(20), "{answers:?}");
         }
     });
 }
@@ -95,7 +96,7 @@ fn stored_jobs() {
             let path = entry.expect("an entry").path();
             if path.extension().is_some_and(|ending| ending == "job") {
                 let job = fs::read(&path).expect("a stored job");
-                let rooms = Rooms::exact(MOST_ROWS + 1, MOST_PROPOSALS + 1);
+                let rooms = Rooms::exact(MOST_IDS + 1, MOST_ROWS + 1, MOST_PROPOSALS + 1);
                 let buffers = random.buffers(rooms);
                 comparer.compare("stored", &path.display().to_string(), &job, &buffers);
             }
@@ -121,7 +122,7 @@ fn stored_jobs() {
 }
 
 /// Jobs A, A with the sky inside, A with points, and B, with each length, and
-/// with each byte changed.
+/// with each byte changed. The room is enough for each V that its low byte makes.
 #[test]
 fn every_length_and_byte() {
     with_stack(|| {
@@ -129,7 +130,7 @@ fn every_length_and_byte() {
         let random = &mut Random::new(3);
         for name in ["a", "sky", "points", "b"] {
             let job = fs::read(format!("{STORED}/{name}.job")).expect("a stored job");
-            let buffers = random.buffers(Rooms::exact(13, 9));
+            let buffers = random.buffers(Rooms::exact(255, 13, 9));
             for at in 0..job.len() {
                 comparer.compare("cut", name, &job[..at], &buffers);
                 for change in 1..=255 {
@@ -145,6 +146,8 @@ fn every_length_and_byte() {
             }
         }
         comparer.report("every length and byte");
+        // V 517 and 773 of A and of A with the sky inside; 263, 519 and 775 of B.
+        assert_eq!(comparer.codes[4], 2 + 2 + 3);
     });
 }
 
@@ -164,7 +167,8 @@ fn every_word_7() {
             for &word in &words {
                 job[28..32].copy_from_slice(&word.to_le_bytes());
                 let before = comparer.codes;
-                comparer.compare("word-7", name, &job, &random.buffers(Rooms::exact(6, 8)));
+                let buffers = random.buffers(Rooms::exact(6, 6, 8));
+                comparer.compare("word-7", name, &job, &buffers);
                 let code = if run.contains(&word) { 0 } else { 3 };
                 assert_eq!(comparer.codes[code], before[code] + 1, "{name} {word}");
             }
@@ -297,39 +301,45 @@ fn every_limit_with_points() {
     });
 }
 
-/// Job A with each room for each buffer.
+/// Job A, and the same with an id that no row holds, with each room for each
+/// buffer. The work area needs 20 words for the neighbours, and for the tallies
+/// two for each id.
 #[test]
 fn every_room() {
     with_stack(|| {
-        let mut comparer = comparer();
-        let random = &mut Random::new(4);
-        let job = fs::read(format!("{STORED}/a.job")).expect("a stored job");
-        let exact = Rooms::exact(5, 7);
-        let mut compare = |rooms: Rooms| {
-            let buffers = random.buffers(rooms);
-            comparer.compare("room", &format!("{rooms:?}"), &job, &buffers);
-        };
-        for room in 0..40 {
-            compare(Rooms {
-                answers: room,
-                ..exact
-            });
-            compare(Rooms {
-                final_marks: room,
-                ..exact
-            });
-            compare(Rooms {
-                triangles: room,
-                ..exact
-            });
-            compare(Rooms {
-                work: room,
-                ..exact
-            });
+        for (name, ids, work) in [("a", 5, 30), ("v6", 6, 32)] {
+            let mut comparer = comparer();
+            let random = &mut Random::new(4);
+            let job = fs::read(format!("{STORED}/{name}.job")).expect("a stored job");
+            let exact = Rooms::exact(ids, 5, 7);
+            let mut compare = |rooms: Rooms| {
+                let buffers = random.buffers(rooms);
+                comparer.compare("room", &format!("{rooms:?}"), &job, &buffers);
+            };
+            for room in 0..40 {
+                compare(Rooms {
+                    answers: room,
+                    ..exact
+                });
+                compare(Rooms {
+                    final_marks: room,
+                    ..exact
+                });
+                compare(Rooms {
+                    triangles: room,
+                    ..exact
+                });
+                compare(Rooms {
+                    work: room,
+                    ..exact
+                });
+            }
+            compare(Rooms::exact(0, 0, 0));
+            comparer.report("every room");
+            let short = 7 + 5 + 30 + work;
+            assert_eq!(comparer.codes[4], short + 1, "{name}");
+            assert_eq!(comparer.codes[0], 4 * 40 - short, "{name}");
         }
-        compare(Rooms::exact(0, 0));
-        comparer.report("every room");
-        assert_eq!(comparer.codes[4], 7 + 5 + 30 + 20 + 1);
     });
 }
 
@@ -389,7 +399,7 @@ fn compare_starts(comparer: &mut Comparer, table: &Table, empty: &Job, random: &
     for marks in growth::every_start(table) {
         let mut job = empty.clone();
         job.marks = marks;
-        let buffers = random.buffers(Rooms::exact(job.rows.len(), 1));
+        let buffers = random.buffers(Rooms::exact(job.ids as usize, job.rows.len(), 1));
         let clean_before = comparer.codes[0];
         comparer.compare("start", "every start", &job.bytes(), &buffers);
         if comparer.codes[0] == clean_before {

@@ -6,7 +6,7 @@ use agree::mesh::Mesh;
 use agree::stl::{read_file, write_facets, write_skin, Skin};
 use agree::{setting, with_stack};
 use common::stl::{file_len, Read, Wrote, CORNERS_AT, FACET_BYTES, FACET_NUMBERS, MOST_FACETS};
-use common::{Outcome, Rooms, MOST_PROPOSALS, MOST_ROWS, WORD_BYTES};
+use common::{Outcome, Rooms, MOST_IDS, MOST_PROPOSALS, MOST_ROWS, WORD_BYTES};
 use jobs::facets::{self, FileCase, Known, ListCase};
 use jobs::{cases, growth, outward, placed, Job, Random};
 use std::fs;
@@ -552,7 +552,7 @@ fn stored_jobs() {
             if path.extension().is_some_and(|ending| ending == "job") {
                 let job = fs::read(&path).expect("a stored job");
                 let kind = path.display().to_string();
-                let rooms = Rooms::exact(MOST_ROWS, MOST_PROPOSALS);
+                let rooms = Rooms::exact(MOST_IDS, MOST_ROWS, MOST_PROPOSALS);
                 for more in 0..4 {
                     let room = |exact, _: &mut Random| exact + more - 2;
                     came.compare(&kind, &job, rooms, room, random);

@@ -1,9 +1,11 @@
 //! Demand 3 on the compiled engine: what a run leaves, run backwards as a job
-//! and cut short as a job. AGREE_JOBS and AGREE_SEED as in `agree`.
+//! and cut short as a job; and the tallies that each of these runs leaves.
+//! AGREE_JOBS and AGREE_SEED as in `agree`.
 
 use agree::{setting, with_stack};
 use common::{Buffers, Outcome};
-use jobs::{cases, Job, Random};
+use jobs::{cases, growth, tables, tallies, Job, Random};
+use std::fs;
 
 /// What a run gave and left.
 struct Ran {
@@ -11,16 +13,22 @@ struct Ran {
     answers: Vec<u8>,
     marks: Vec<u8>,
     triangles: Vec<u32>,
+    work: Vec<u32>,
 }
 
 fn ran(job: &Job) -> Ran {
     let mut buffers = Buffers::filled(job.rooms(), 9);
     let outcome = track::run(&job.bytes(), buffers.lend());
+    if outcome.code == 0 {
+        let fault = tallies::fault(job, &buffers.final_marks, &buffers.work);
+        assert_eq!(fault, None);
+    }
     Ran {
         outcome,
         answers: buffers.answers,
         marks: buffers.final_marks,
         triangles: buffers.triangles,
+        work: buffers.work,
     }
 }
 
@@ -69,6 +77,7 @@ fn cut(job: &Job, run: &Ran, k: usize) {
     assert_eq!(resumed.answers, run.answers[k..]);
     assert_eq!(resumed.marks, run.marks);
     assert_eq!(resumed.triangles, run.triangles);
+    assert_eq!(resumed.work, run.work);
 }
 
 fn every_case() {
@@ -77,7 +86,9 @@ fn every_case() {
     let [mut accepted, mut with_points, mut taken] = [0, 0, 0];
     for number in (first..).take(count as usize) {
         let case = cases::case(number, 5 + (number % 90) as usize);
-        let Some(job) = Job::from_bytes(&case.job) else {
+        // No room is lent for counts beyond their limits.
+        let laid_out = Job::from_bytes(&case.job);
+        let Some(job) = laid_out.filter(|job| job.counts().within_limits()) else {
             continue;
         };
         let run = ran(&job);
@@ -107,4 +118,27 @@ fn every_case() {
 #[test]
 fn backwards_and_cut() {
     with_stack(every_case);
+}
+
+/// The tallies after each proposal of stored jobs, and of generated ones.
+#[test]
+fn every_cut() {
+    with_stack(|| {
+        for (name, taken) in [("b", 5), ("adds", 8), ("removes", 7), ("inward", 7)] {
+            let folder = concat!(env!("CARGO_MANIFEST_DIR"), "/../../jobs");
+            let bytes = fs::read(format!("{folder}/{name}.job")).expect("a stored job");
+            let job = Job::from_bytes(&bytes).expect("a layout");
+            assert_eq!(tallies::of_each_cut(&job, track::run), Ok(taken), "{name}");
+        }
+        let mut all_taken = 0;
+        for number in 0..40 {
+            let random = &mut Random::new(number);
+            let (family, table) = tables::any(100, random);
+            let mut job = table.job();
+            job.marks = growth::even_marks(&table, random.pick(&[0, 1]), random.pick(&[0, 1]));
+            growth::propose(&mut job, 60, random.pick(&[20, 50, 80]), random);
+            all_taken += tallies::of_each_cut(&job, track::run).expect(family);
+        }
+        assert!(all_taken >= 500, "{all_taken}");
+    });
 }

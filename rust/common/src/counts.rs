@@ -99,7 +99,12 @@ impl Counts {
 
     /// The room that a job of these counts needs.
     pub const fn rooms(&self) -> Rooms {
-        Rooms::exact(self.rows, self.proposals)
+        Rooms::exact(self.ids, self.rows, self.proposals)
+    }
+
+    /// Where the tallies begin in the work area: behind the neighbour list.
+    pub const fn tallies_at(&self) -> usize {
+        4 * self.rows
     }
 }
 
@@ -126,6 +131,14 @@ mod tests {
             assert_eq!(Counts::told_by(&header), counts);
             assert_eq!(counts.points_at(), 43_040);
             assert_eq!(counts.length(), length as usize);
+            let rooms = Rooms {
+                answers: 1024,
+                final_marks: 2048,
+                triangles: 12_288,
+                work: 10_240,
+            };
+            assert_eq!(counts.rooms(), rooms);
+            assert_eq!(counts.tallies_at(), 8192);
         }
     }
 }

@@ -39,14 +39,14 @@ pub struct Rooms {
 }
 
 impl Rooms {
-    /// Just enough for N rows and P proposals: each row has four neighbours, and
-    /// the skin has at most 2N triangles.
-    pub const fn exact(n: usize, p: usize) -> Rooms {
+    /// Just enough for V ids, N rows and P proposals: the skin has at most 2N
+    /// triangles, each row has four neighbours, and each id two tallies.
+    pub const fn exact(v: usize, n: usize, p: usize) -> Rooms {
         Rooms {
             answers: p,
             final_marks: n,
             triangles: 6 * n,
-            work: 4 * n,
+            work: 4 * n + 2 * v,
         }
     }
 }

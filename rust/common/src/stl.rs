@@ -77,13 +77,14 @@ impl Read {
 #[cfg(test)]
 mod tests {
     use super::*;
-    use crate::{Rooms, MOST_ROWS};
+    use crate::{Rooms, MOST_IDS, MOST_ROWS};
 
     #[test]
     fn lengths() {
         assert_eq!(file_len(0), 84);
         assert_eq!(file_len(MOST_FACETS), 204_884);
         assert_eq!(CORNERS_AT + 4 * FACET_NUMBERS + 2, FACET_BYTES);
-        assert_eq!(3 * MOST_FACETS, Rooms::exact(MOST_ROWS, 0).triangles);
+        let largest = Rooms::exact(MOST_IDS, MOST_ROWS, 0);
+        assert_eq!(3 * MOST_FACETS, largest.triangles);
     }
 }

@@ -330,9 +330,16 @@ fn vary(rooms: &mut Rooms, random: &mut Random) -> &'static str {
         work,
     } = rooms;
     let mut all = [answers, final_marks, triangles, work];
-    match random.below(20) {
-        0..8 => "room exact",
-        8 => {
+    match random.below(40) {
+        0..16 => "room exact",
+        16 => {
+            // The neighbour list alone, or with the inside tallies.
+            let neighbours = 4 * rooms.final_marks;
+            let tallies = rooms.work - neighbours;
+            rooms.work = neighbours + random.pick(&[0, tallies / 2]);
+            "room short of tallies"
+        }
+        17 | 18 => {
             let room = &mut *all[random.below(4)];
             *room = match random.below(4) {
                 0 => 0,
@@ -347,5 +354,34 @@ fn vary(rooms: &mut Rooms, random: &mut Random) -> &'static str {
             }
             "room to spare"
         }
+    }
+}
+
+#[cfg(test)]
+mod tests {
+    use super::*;
+    use common::Buffers;
+
+    /// Jobs that are run where work is enough have it one word short, and as long
+    /// as for the neighbour list alone, or with the tallies of the inside rows.
+    #[test]
+    fn work_is_short() {
+        let mut lent = [0; 3];
+        for number in 0..6000 {
+            let Case { job, rooms, .. } = case(number, 5 + number as usize % 36);
+            let enough = Rooms {
+                work: 4 * MOST_ROWS + 2 * MOST_IDS,
+                ..rooms
+            };
+            if plain::run(&job, Buffers::zeros(enough).lend()).code != 0 {
+                continue;
+            }
+            let job = Job::from_bytes(&job).expect("a layout");
+            let (v, n) = (job.ids as usize, job.rows.len());
+            for (lent, short) in lent.iter_mut().zip([4 * n, 4 * n + v, 4 * n + 2 * v - 1]) {
+                *lent += usize::from(rooms.work == short);
+            }
+        }
+        assert!(lent.iter().all(|&jobs| jobs >= 10), "{lent:?}");
     }
 }

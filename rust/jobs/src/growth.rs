@@ -117,6 +117,7 @@ impl Standing {
     fn after(job: &Job) -> Option<Standing> {
         let mut buffers = Buffers::zeros(job.rooms());
         let outcome = plain::run(&job.bytes(), buffers.lend());
+        buffers.work.truncate(job.counts().tallies_at());
         (outcome.code == 0).then_some(Standing {
             marks: buffers.final_marks,
             neighbours: buffers.work,

@@ -11,6 +11,7 @@ pub mod placed;
 mod random;
 pub mod rings;
 pub mod tables;
+pub mod tallies;
 pub mod text;
 pub mod worst;
 

@@ -320,8 +320,9 @@ fn first_of_last(job: &Job) -> u32 {
     job.rows.len() as u32 - 14
 }
 
-/// To remove a row with no triangle on the skin asks all rows at each of its
-/// four corners. To add it again asks none: all its triangles are on the skin.
+/// To remove a row with no triangle on the skin reads the tallies at its four
+/// corners. To add it again reads none: all its triangles are on the skin. Both
+/// are taken, and change the four.
 fn adds_and_removes() -> Job {
     let mut job = sevens(|_| false, |_| true);
     let row = first_of_last(&job);
@@ -329,9 +330,8 @@ fn adds_and_removes() -> Job {
     job
 }
 
-/// Each proposal asks all rows at each of four corners, and is refused by the
-/// last row at the last corner. No proposal asks more. Rows of the other side
-/// take longer, and all but 13 are.
+/// Each proposal reads the tallies at four corners, and is refused at the last
+/// one, where of the other side there is the last row alone.
 fn refusals() -> Job {
     let mut job = sevens(|_| false, |row| row[0] != 3);
     job.proposals = vec![[first_of_last(&job), Job::REMOVE]; MOST_PROPOSALS];

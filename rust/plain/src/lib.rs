@@ -9,6 +9,7 @@ mod skin;
 mod stages;
 pub mod stl;
 mod table;
+mod tallies;
 
 pub use listing::listing;
 pub use stages::Stages;
@@ -17,6 +18,7 @@ use common::{Counts, Lent, Order, Outcome};
 use points::Sides;
 use stages::{Stage, Stopwatch, Unwatched, Watch};
 use table::{Corners, Row, Table};
+use tallies::Tallies;
 
 /// A job code other than 0, and its place.
 #[derive(Clone, Copy, Debug, PartialEq, Eq)]
@@ -101,7 +103,8 @@ fn run_laid_out<W: Watch>(
     lent: &mut Lent,
     watch: &mut W,
 ) -> Result<(Outcome, Found), Refusal> {
-    let (neighbours, _) = lent.work.as_chunks_mut();
+    let (neighbours, tallies) = lent.work.split_at_mut(counts.tallies_at());
+    let (neighbours, _) = neighbours.as_chunks_mut();
     let rows = table::read_rows(counts, job)?;
     watch.lap(Stage::HeaderAndRows);
     table::find_neighbours(&rows, neighbours)?;
@@ -129,8 +132,9 @@ fn run_laid_out<W: Watch>(
 
     let marks = &mut *lent.final_marks;
     marks.copy_from_slice(start);
+    let mut tallies = Tallies::count(&rows, marks, tallies);
     let proposals = &job[counts.proposals_at()..counts.points_at()];
-    let taken = growth::run_proposals(&table, marks, proposals, lent.answers);
+    let taken = growth::run_proposals(&table, marks, &mut tallies, proposals, lent.answers);
     watch.lap(Stage::Proposals);
     let outward = counts.points == Some(Order::Outward);
     let listed = match sides.as_ref().filter(|_| outward) {

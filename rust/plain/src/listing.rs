@@ -2,12 +2,12 @@
 
 use crate::header::read_counts;
 use crate::run;
-use common::{Buffers, Rooms, MOST_PROPOSALS, MOST_ROWS};
+use common::{Buffers, Rooms, MOST_IDS, MOST_PROPOSALS, MOST_ROWS};
 use std::fmt::Write;
 
 /// What the listing program prints for a job.
 pub fn listing(job: &[u8]) -> String {
-    let mut buffers = Buffers::zeros(Rooms::exact(MOST_ROWS, MOST_PROPOSALS));
+    let mut buffers = Buffers::zeros(Rooms::exact(MOST_IDS, MOST_ROWS, MOST_PROPOSALS));
     let outcome = run(job, buffers.lend());
     if outcome.code != 0 {
         return format!("refused {} {}\n", outcome.code, outcome.place);

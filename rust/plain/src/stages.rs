@@ -11,6 +11,7 @@ pub struct Stages {
     pub vertices: Duration,
     pub clean: Duration,
     pub points: Duration,
+    /// With the tallies, which are counted for them.
     pub proposals: Duration,
     pub list: Duration,
 }

@@ -89,9 +89,10 @@ pub fn write_skin(job: &[u8], lent: Lent, file: &mut [u8]) -> Outcome {
 fn outward(ran: &Ran) -> Vec<u32> {
     let mut triangles = vec![0; 3 * ran.outcome.triangles as usize];
     if let Some(sides) = &ran.found.sides {
+        let (neighbours, _) = ran.lent.work.split_at(ran.counts.tallies_at());
         let table = Table {
             rows: &ran.found.rows,
-            neighbours: ran.lent.work.as_chunks().0,
+            neighbours: neighbours.as_chunks().0,
             corners: &ran.found.corners,
         };
         skin::list_outward(&table, ran.lent.final_marks, sides, &mut triangles);

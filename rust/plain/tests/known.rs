@@ -23,6 +23,16 @@ fn job_a() -> Job {
 
 const NEIGHBOURS_A: [u32; 20] = [4, 3, 2, 1, 4, 3, 2, 0, 4, 3, 1, 0, 4, 2, 1, 0, 3, 2, 1, 0];
 
+/// What a run leaves in the work area: the neighbour list, for each id the tally
+/// of the inside rows, and for each id that of all rows.
+type Work<'a> = [&'a [u32]; 3];
+
+/// Job A with nothing inside, with row 4, with rows 0 to 3, and with all.
+const NONE: Work = [&NEIGHBOURS_A, &[0; 5], &[4; 5]];
+const ROW_4: Work = [&NEIGHBOURS_A, &[0, 1, 1, 1, 1], &[4; 5]];
+const ALL_BUT_4: Work = [&NEIGHBOURS_A, &[4, 3, 3, 3, 3], &[4; 5]];
+const ALL: Work = [&NEIGHBOURS_A, &[4; 5], &[4; 5]];
+
 fn job_b() -> Job {
     let mut rows = Vec::new();
     for [a, b] in [[0, 1], [0, 2], [1, 2]] {
@@ -165,32 +175,34 @@ fn refused_late(job: &Job, code: u32, place: u32) {
 }
 
 /// Runs a job that is not refused.
-fn done(job: &Job, answers: &[u8], marks: &[u8], skin: &[[u32; 3]], neighbours: &[u32]) {
+fn done(job: &Job, answers: &[u8], marks: &[u8], skin: &[[u32; 3]], work: Work) {
     let mut left = nines(job);
     let mut expected = left.clone();
     expected.answers[..answers.len()].copy_from_slice(answers);
     expected.final_marks[..marks.len()].copy_from_slice(marks);
     expected.triangles[..3 * skin.len()].copy_from_slice(skin.as_flattened());
-    expected.work[..neighbours.len()].copy_from_slice(neighbours);
+    let work = work.concat();
+    assert_eq!(work.len(), job.rooms().work);
+    expected.work[..work.len()].copy_from_slice(&work);
     let taken = answers.iter().filter(|&&answer| answer == 0).count();
     let outcome = plain::run(&job.bytes(), left.lend());
     assert_eq!(outcome, Outcome::done(taken as u32, skin.len() as u32));
     assert_eq!(left, expected);
 }
 
-fn done_as_a(job: &Job) {
+fn done_as_a(job: &Job, work: Work) {
     done(
         job,
         &[0, 4, 3, 0, 2, 1, 0],
         &[0, 0, 0, 0, 1],
         &[[2, 3, 4], [1, 3, 4], [1, 2, 4], [1, 2, 3]],
-        &NEIGHBOURS_A,
+        work,
     );
 }
 
 #[test]
 fn case_a() {
-    done_as_a(&job_a());
+    done_as_a(&job_a(), ROW_4);
 }
 
 #[test]
@@ -216,8 +228,35 @@ fn case_b() {
             [2, 5, 6],
             [1, 5, 6],
         ],
-        &neighbours,
+        [&neighbours, &[0, 3, 3, 1, 1, 2, 2], &[8, 8, 8, 6, 6, 6, 6]],
     );
+}
+
+/// The tallies of the inside rows after each proposal of job B, of which the
+/// second and the last are refused.
+#[test]
+fn tallies_of_b() {
+    let mut job = job_b();
+    let proposals = std::mem::take(&mut job.proposals);
+    for (k, inside) in [
+        [0, 0, 0, 0, 0, 0, 0],
+        [0, 1, 1, 1, 1, 0, 0],
+        [0, 1, 1, 1, 1, 0, 0],
+        [0, 2, 2, 1, 2, 1, 0],
+        [0, 3, 3, 1, 2, 2, 1],
+        [0, 4, 4, 2, 2, 2, 2],
+        [0, 3, 3, 1, 1, 2, 2],
+        [0, 3, 3, 1, 1, 2, 2],
+    ]
+    .into_iter()
+    .enumerate()
+    {
+        job.proposals = proposals[..k].to_vec();
+        let mut left = nines(&job);
+        assert_eq!(plain::run(&job.bytes(), left.lend()).code, 0);
+        assert_eq!(left.work[48..55], inside, "{k}");
+        assert_eq!(left.work[55..], [8, 8, 8, 6, 6, 6, 6, 9], "{k}");
+    }
 }
 
 #[test]
@@ -241,7 +280,7 @@ fn case_e() {
 fn case_f() {
     let mut job = job_a();
     job.proposals.clear();
-    done(&job, &[], &[0; 5], &[], &NEIGHBOURS_A);
+    done(&job, &[], &[0; 5], &[], NONE);
 }
 
 #[test]
@@ -295,7 +334,12 @@ fn cut_by_a_byte() {
 fn six_ids() {
     let mut job = job_a();
     job.ids = 6;
-    done_as_a(&job);
+    let work: Work = [&NEIGHBOURS_A, &[0, 1, 1, 1, 1, 0], &[4, 4, 4, 4, 4, 0]];
+    done_as_a(&job, work);
+    // Two words more than job A.
+    let mut short = nines(&job);
+    short.work.truncate(31);
+    refused_early(&job.bytes(), &short, 4);
 }
 
 #[test]
@@ -305,7 +349,7 @@ fn room_short_by_one() {
         answers: vec![9; 7],
         final_marks: vec![9; 5],
         triangles: vec![9; 30],
-        work: vec![9; 20],
+        work: vec![9; 30],
     };
     assert_eq!(plain::run(&bytes, exact.clone().lend()).code, 0);
     let mut short = exact.clone();
@@ -320,6 +364,11 @@ fn room_short_by_one() {
     short = exact.clone();
     short.work.pop();
     refused_early(&bytes, &short, 4);
+    // For the tallies of the inside rows alone, and for none.
+    for words in [25, 20] {
+        short.work.truncate(words);
+        refused_early(&bytes, &short, 4);
+    }
 }
 
 #[test]
@@ -341,14 +390,14 @@ fn sky_inside() {
     let link = [[1, 2, 3], [1, 2, 4], [1, 3, 4], [2, 3, 4]];
     let mut sky = inside(job_a(), &[0, 1, 2, 3]);
     sky.proposals.clear();
-    done(&sky, &[], &[1, 1, 1, 1, 0], &link, &NEIGHBOURS_A);
+    done(&sky, &[], &[1, 1, 1, 1, 0], &link, ALL_BUT_4);
     sky.proposals = vec![[4, 1]];
-    done(&sky, &[0], &[1; 5], &[], &NEIGHBOURS_A);
+    done(&sky, &[0], &[1; 5], &[], ALL);
     let mut all = inside(job_a(), &[0, 1, 2, 3, 4]);
     all.proposals.clear();
-    done(&all, &[], &[1; 5], &[], &NEIGHBOURS_A);
+    done(&all, &[], &[1; 5], &[], ALL);
     all.proposals = vec![[4, 2]];
-    done(&all, &[0], &[1, 1, 1, 1, 0], &link, &NEIGHBOURS_A);
+    done(&all, &[0], &[1, 1, 1, 1, 0], &link, ALL_BUT_4);
 }
 
 #[test]
@@ -369,7 +418,8 @@ fn no_outer_row() {
         *row = row.map(|id| id + 1);
     }
     let skin = [[2, 3, 4], [1, 3, 4], [1, 2, 4], [1, 2, 3]];
-    done(&job, &[], &[1, 0, 0, 0, 0], &skin, &NEIGHBOURS_A);
+    let work: Work = [&NEIGHBOURS_A, &[0, 1, 1, 1, 1, 0], &[0, 4, 4, 4, 4, 4]];
+    done(&job, &[], &[1, 0, 0, 0, 0], &skin, work);
 }
 
 /// Job A with points, in both orders.
@@ -385,7 +435,7 @@ fn a_with_points() {
             &[0, 4, 3, 0, 2, 1, 0],
             &[0, 0, 0, 0, 1],
             &skin,
-            &NEIGHBOURS_A,
+            ROW_4,
         );
     }
 }
@@ -397,7 +447,7 @@ fn mirrored_a_with_points() {
     let mut job = inside(placed(job_a(), &[b, a, c, d]), &[4]);
     job.proposals.clear();
     let outward = [[2, 3, 4], [1, 4, 3], [1, 2, 4], [1, 3, 2]];
-    done(&job, &[], &[0, 0, 0, 0, 1], &outward, &NEIGHBOURS_A);
+    done(&job, &[], &[0, 0, 0, 0, 1], &outward, ROW_4);
 }
 
 /// The inside rows are outer, and the corner of row 4 lies in front.
@@ -409,7 +459,7 @@ fn sky_inside_with_points() {
     let outward = [[1, 3, 2], [1, 2, 4], [1, 4, 3], [2, 3, 4]];
     for (order, skin) in [(Order::Rising, rising), (Order::Outward, outward)] {
         let job = asking(order, &job);
-        done(&job, &[], &[1, 1, 1, 1, 0], &skin, &NEIGHBOURS_A);
+        done(&job, &[], &[1, 1, 1, 1, 0], &skin, ALL_BUT_4);
     }
 }
 
@@ -424,7 +474,7 @@ fn points_on_the_border_of_the_grid() {
     let mut job = inside(placed(job_a(), &corners), &[4]);
     job.proposals.clear();
     let outward = [[2, 4, 3], [1, 3, 4], [1, 4, 2], [1, 2, 3]];
-    done(&job, &[], &[0, 0, 0, 0, 1], &outward, &NEIGHBOURS_A);
+    done(&job, &[], &[0, 0, 0, 0, 1], &outward, ROW_4);
 }
 
 #[test]

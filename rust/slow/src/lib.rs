@@ -19,7 +19,7 @@ pub fn run(job: &[u8], lent: Lent) -> Outcome {
         return Outcome::refused(code, 0);
     }
     let [v, n, p, word_7] = [0, 4, 8, 28].map(|at| number(job, at) as usize);
-    let Some(lent) = lent.front(Rooms::exact(n, p)) else {
+    let Some(lent) = lent.front(Rooms::exact(v, n, p)) else {
         return Outcome::refused(4, 0);
     };
     let Lent {
@@ -57,6 +57,11 @@ pub fn run(job: &[u8], lent: Lent) -> Outcome {
             let across = (0..n).find(|&s| s != r && holds(&rows[s], &shared));
             work[4 * r + left_out] = across.expect("a neighbour") as u32;
         }
+    }
+    for id in 0..v {
+        let held = [id as u32];
+        work[4 * n + id] = inside_rows_holding(&rows, final_marks, &held) as u32;
+        work[4 * n + v + id] = rows_holding(&rows, &held).count() as u32;
     }
     let skin = skin(&rows, final_marks);
     for (i, &ids) in skin.iter().enumerate() {

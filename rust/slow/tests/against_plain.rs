@@ -1,9 +1,9 @@
 //! The slow engine against `plain` on small jobs: outcome and every byte and
-//! word of every buffer. AGREE_JOBS sets the number of random jobs and
+//! word of every buffer; the tallies against a recount, too. AGREE_JOBS sets the number of random jobs and
 //! AGREE_SEED the number of the first.
 
 use common::{Buffers, Outcome, Rooms};
-use jobs::{cases, growth, outward, placed, tables, Job, Random};
+use jobs::{cases, growth, outward, placed, tables, tallies, Job, Random};
 
 /// Runs both on the same buffers, requires the same results, and returns them.
 fn agree(kind: &str, job: &[u8], buffers: Buffers) -> (Outcome, Buffers) {
@@ -13,6 +13,11 @@ fn agree(kind: &str, job: &[u8], buffers: Buffers) -> (Outcome, Buffers) {
     let slow = slow::run(job, by_slow.lend());
     assert_eq!(plain, slow, "{kind}");
     assert!(by_plain == by_slow, "{kind}: buffers");
+    if slow.code == 0 {
+        let job = Job::from_bytes(job).expect("a layout");
+        let fault = tallies::fault(&job, &by_slow.final_marks, &by_slow.work);
+        assert_eq!(fault, None, "{kind}");
+    }
     (slow, by_slow)
 }
 
@@ -156,7 +161,7 @@ fn every_byte_and_length() {
     for name in ["a", "sky", "b", "points", "outward", "flat", "folded"] {
         let folder = concat!(env!("CARGO_MANIFEST_DIR"), "/../../jobs");
         let bytes = std::fs::read(format!("{folder}/{name}.job")).expect("a stored job");
-        let buffers = Random::new(6).buffers(Rooms::exact(13, 9));
+        let buffers = Random::new(6).buffers(Rooms::exact(255, 13, 9));
         for at in 0..bytes.len() {
             for change in [1, 2, 3, 4, 8, 128, 255] {
                 let mut changed = bytes.clone();

@@ -1,6 +1,7 @@
 //! Jobs B, `inward`, `points` and `road` in docs/JOBS.md: each proposal with f
 //! and its answer, and that two more are taken on B; each triangle in both
-//! orders, with the product that tells its side.
+//! orders, with the product that tells its side. And what A leaves in its work
+//! area.
 
 use common::{Buffers, Order};
 use jobs::Job;
@@ -90,6 +91,20 @@ fn cells(part: &str) -> Vec<Vec<String>> {
         .filter(|line| line.starts_with('|'))
         .map(cut)
         .collect()
+}
+
+/// The table of the words of work has no other numbers in its last column.
+#[test]
+fn work_is_as_the_page_says() {
+    let numbers = |row: &Vec<String>| -> Option<Vec<u32>> {
+        let words = row[3].split([' ', ',']).filter(|word| !word.is_empty());
+        words.map(|word| word.parse().ok()).collect()
+    };
+    let told = cells("### What is left in the buffers");
+    let told: Vec<Vec<u32>> = told.iter().filter_map(numbers).collect();
+    let mut buffers = Buffers::zeros(stored("a").rooms());
+    slow::run(&stored("a").bytes(), buffers.lend());
+    assert_eq!(told.concat(), buffers.work);
 }
 
 fn triangle(text: &str) -> Option<[u32; 3]> {

@@ -2,51 +2,57 @@
 //! [`write_skin`] writes its skin as STL, too, and [`write_facets`] and
 //! [`read_file`] write and read such files.
 //!
-//! To run a job a caller lends four buffers, which for a job of N rows and P proposals must
-//! be at least this long ([`Rooms::exact`]):
+//! To run a job a caller lends four buffers, which for a job of V ids, N rows and
+//! P proposals must be at least this long ([`Rooms::exact`]):
 //!
 //! | buffer | length | what code 0 leaves at its front |
 //! |---|---|---|
 //! | `answers` | P bytes | the answers, in the order of the proposals |
 //! | `final_marks` | N bytes | the marks after the last proposal |
 //! | `triangles` | 6N words | the skin, three ids for each triangle |
-//! | `work` | 4N words | the neighbour list: word 4r + c is the row across the triangle of row r that leaves out its corner c |
+//! | `work` | 4N + 2V words | the neighbour list: word 4r + c is the row across the triangle of row r that leaves out its corner c; and the tallies: word 4N + v is how many inside rows hold id v, after the last proposal, and word 4N + V + v how many rows do |
 //!
 //! The skin is listed by inside row, then by the left-out corner, and has as
 //! many triangles as the outcome says. In a job with points each is listed
 //! outward: the inside lies behind it. In one without points, and where word 7
 //! is 3, the ids of each rise instead. Every other code refuses the job: it
 //! changes nothing in the first three buffers; codes 1 to 4 don't touch `work`,
-//! and codes 5 to 15 leave zero in its first 4N words. What stands behind these
-//! bytes and words is never changed. `include/track.h` has the layout of a job,
-//! and what each code and each answer means.
+//! and codes 5 to 15 leave zero in its first 4N + 2V words. What stands behind
+//! these bytes and words is never changed. `include/track.h` has the layout of a
+//! job, and what each code and each answer means.
 //!
 //! ```
-//! use track::{Buffers, Outcome, Rooms, MOST_PROPOSALS, MOST_ROWS};
+//! use track::{Buffers, Outcome, Rooms, MOST_IDS, MOST_PROPOSALS, MOST_ROWS};
 //!
 //! let folder = concat!(env!("CARGO_MANIFEST_DIR"), "/../../jobs/");
 //! let job = std::fs::read(format!("{folder}a.job"))?;
 //!
-//! // Five rows and seven proposals.
-//! let mut lent = Buffers::zeros(Rooms::exact(5, 7));
+//! // Five ids, five rows and seven proposals.
+//! let mut lent = Buffers::zeros(Rooms::exact(5, 5, 7));
 //! let outcome = track::run(&job, lent.lend());
 //! assert_eq!(outcome, Outcome { code: 0, place: 0, taken: 3, triangles: 4 });
 //! assert_eq!(lent.answers, [0, 4, 3, 0, 2, 1, 0]);
 //! assert_eq!(lent.final_marks, [0, 0, 0, 0, 1]);
 //! assert_eq!(lent.triangles[..12], [2, 3, 4, 1, 3, 4, 1, 2, 4, 1, 2, 3]);
-//! assert_eq!(lent.work[16..], [3, 2, 1, 0]);
+//! // Across the triangles of row 4 are rows 3 to 0. It alone is inside, so one
+//! // inside row holds each of its ids; four rows hold each id.
+//! assert_eq!(lent.work[16..20], [3, 2, 1, 0]);
+//! assert_eq!(lent.work[20..25], [0, 1, 1, 1, 1]);
+//! assert_eq!(lent.work[25..], [4, 4, 4, 4, 4]);
 //!
 //! // In job B one row is refused at f = 0 (answer 5), and one at f = 2 (7).
 //! let job = std::fs::read(format!("{folder}b.job"))?;
-//! let mut lent = Buffers::zeros(Rooms::exact(12, 7));
+//! let mut lent = Buffers::zeros(Rooms::exact(7, 12, 7));
 //! let outcome = track::run(&job, lent.lend());
 //! assert_eq!(outcome, Outcome { code: 0, place: 0, taken: 5, triangles: 8 });
 //! assert_eq!(lent.answers, [0, 5, 0, 0, 0, 0, 7]);
+//! assert_eq!(lent.work[48..55], [0, 3, 3, 1, 1, 2, 2]);
+//! assert_eq!(lent.work[55..], [8, 8, 8, 6, 6, 6, 6]);
 //!
 //! // The first job's table and proposals with points, listed outward; and with
 //! // word 7 made 3, whose low byte is byte 28, by rising ids.
 //! let mut job = std::fs::read(format!("{folder}outward.job"))?;
-//! let mut lent = Buffers::zeros(Rooms::exact(5, 7));
+//! let mut lent = Buffers::zeros(Rooms::exact(5, 5, 7));
 //! let outcome = track::run(&job, lent.lend());
 //! assert_eq!(outcome, Outcome { code: 0, place: 0, taken: 3, triangles: 4 });
 //! assert_eq!(lent.triangles[..12], [2, 4, 3, 1, 3, 4, 1, 4, 2, 1, 2, 3]);
@@ -55,13 +61,14 @@
 //! assert_eq!(lent.triangles[..12], [2, 3, 4, 1, 3, 4, 1, 2, 4, 1, 2, 3]);
 //!
 //! // Enough for every job. Row 3 has a mark that is neither 0 nor 1.
-//! let mut lent = Buffers::filled(Rooms::exact(MOST_ROWS, MOST_PROPOSALS), 9);
+//! let most = Rooms::exact(MOST_IDS, MOST_ROWS, MOST_PROPOSALS);
+//! let mut lent = Buffers::filled(most, 9);
 //! let job = std::fs::read(format!("{folder}d.job"))?;
 //! let outcome = track::run(&job, lent.lend());
 //! assert_eq!(outcome, Outcome { code: 10, place: 3, taken: 0, triangles: 0 });
 //! assert_eq!(lent.answers, [9; MOST_PROPOSALS]);
-//! assert_eq!(lent.work[..20], [0; 20]);
-//! assert!(lent.work[20..].iter().all(|&word| word == 9));
+//! assert_eq!(lent.work[..30], [0; 30]);
+//! assert!(lent.work[30..].iter().all(|&word| word == 9));
 //! # Ok::<(), std::io::Error>(())
 //! ```
 
@@ -70,7 +77,7 @@
 mod engine;
 
 use common::stl::{Read, Wrote};
-pub use common::{stl, Buffers, Lent, Outcome, Rooms, MOST_PROPOSALS, MOST_ROWS};
+pub use common::{stl, Buffers, Lent, Outcome, Rooms, MOST_IDS, MOST_PROPOSALS, MOST_ROWS};
 
 /// Whether the engine runs under an emulator, so that its times say nothing.
 pub const EMULATED: bool = cfg!(not(linked));
@@ -163,7 +170,7 @@ pub fn read_file(file: &[u8], units: &mut [i16]) -> Read {
 ///
 /// let folder = concat!(env!("CARGO_MANIFEST_DIR"), "/../../jobs/");
 /// let job = std::fs::read(format!("{folder}outward.job"))?;
-/// let mut lent = Buffers::zeros(Rooms::exact(5, 7));
+/// let mut lent = Buffers::zeros(Rooms::exact(5, 5, 7));
 /// let mut file = vec![9; stl::file_len(4)];
 /// let outcome = track::write_skin(&job, lent.lend(), &mut file);
 /// assert_eq!(outcome, Outcome { code: 0, place: 0, taken: 3, triangles: 4 });

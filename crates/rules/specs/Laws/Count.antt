@@ -1,7 +1,7 @@
 -- Laws of sums and counts: exactly one, exactly two, and counting in two ways.
 use mathlib.Core.Path.{_≡_, refl, sym, ap, _∙_, subst}
 use mathlib.Core.Logic.{_⊎_, inl, inr, ⊎-elim, _≢_}
-use mathlib.Core.Bool.{Bool, true, false, not, _&&_, _||_, cond, Bool·beq, xor, true≢false}
+use mathlib.Core.Bool.{Bool, true, false, not, _&&_, _||_, cond, Bool·beq, xor, true≢false, and-true, and-false}
 use Prim.Native.Nat.{ℕ, zero, suc, _+_, _*_, _≤_, _<_, zero-le}
 use native.Mathlib.Nat.{le-of-suc-le-suc, not-suc-le-zero, eq-or-lt-of-le, le-refl, le-step, lt-irrefl, add-zero, zero-add, add-le-add, zero-mul, suc-mul, mul-suc, mul-zero, add-suc}
 use native.Mathlib.Numerals.{add-one}
@@ -9,7 +9,7 @@ use native.Mathlib.Omega.{arith}
 use lib.Dec.{eqb}
 use borrow.Author.Tests.{eqb-true, eq-eqb, eqb-false, ne-eqb, not-true, not-false}
 use Rattle.rules.specs.Below.{any, allBut, bit, sum, count}
-use Rattle.rules.specs.Laws.Truth.{not-both, is-false, is-true, and-first, and-second, and-both, or-either, or-first, or-second, same-or-not}
+use Rattle.rules.specs.Laws.Truth.{true-or-false, not-both, is-false, is-true, and-first, and-second, and-both, or-either, or-first, or-second, same-or-not}
 use Rattle.rules.specs.Laws.Below.{Lowest, lowest-or-none, any-here, none-any, all-each, each-all}
 
 -- ---- sums
@@ -139,6 +139,33 @@ count-some n p h =
 
 pub count-zero : (n : ℕ) (p : ℕ → Bool) → count n p ≡ 0 → (k : ℕ) → k < n → p k ≡ false
 count-zero n p e k h = is-false (p k) (λ t. omega (arith, count-without n p k h t))
+
+-- none passes
+pub count-none : (n : ℕ) (p : ℕ → Bool) → eqb (count n p) 0 ≡ not (any n p)
+count-none n p = ⊎-elim some-passes none-passes (lowest-or-none n p)
+  where
+    some-passes : (k : ℕ) × Lowest n p k → eqb (count n p) 0 ≡ not (any n p)
+    some-passes (k, l) =
+        ne-eqb (count n p) 0 (λ (e : count n p ≡ 0). not-both (l .passes) (count-zero n p e k (l .below))) ∙ ap not (sym (any-here n p k (l .below) (l .passes)))
+
+    none-passes : ((k : ℕ) → k < n → p k ≡ false) → eqb (count n p) 0 ≡ not (any n p)
+    none-passes off = eq-eqb (count n p) 0 (none-count n p off) ∙ ap not (sym (none-any n p off))
+
+-- one that did not pass, and now does or does not
+pub count-with : (n : ℕ) (p q : ℕ → Bool) (k : ℕ) → k < n → p k ≡ false → ((j : ℕ) → j < n → j ≢ k → q j ≡ p j) → count n q ≡ count n p + bit (q k)
+unfolding without
+count-with n p q k l off same = ⊎-elim passes fails (true-or-false (q k))
+  where
+    passes : q k ≡ true → count n q ≡ count n p + bit (q k)
+    passes on =
+        count-without n q k l on ∙ ap (λ (m : ℕ). m + 1) (count-same n (without q k) p (λ j m. ⊎-elim (λ (e : j ≡ k). rw (e, eq-eqb k k refl, off) (and-false (q k)))
+        (λ ne. rw (ne-eqb j k ne, same j m ne) (and-true (p j))) (same-or-not j k)))
+        ∙ ap (λ (m : ℕ). count n p + m) (sym (bit-one on))
+
+    fails : q k ≡ false → count n q ≡ count n p + bit (q k)
+    fails not-k =
+        count-same n q p (λ j m. ⊎-elim (λ (e : j ≡ k). ap q e ∙ not-k ∙ sym (ap p e ∙ off)) (same j m) (same-or-not j k))
+        ∙ sym (add-zero (count n p)) ∙ ap (λ (m : ℕ). count n p + m) (sym (bit-zero not-k))
 
 count-le : (n : ℕ) (p q : ℕ → Bool) → ((k : ℕ) → k < n → p k ≡ true → q k ≡ true) → count n p ≤ count n q
 unfolding count
@@ -323,6 +350,17 @@ count-not n p =
     either : (b : Bool) → bit b + bit (not b) ≡ bit true
     either true = rw (bit-zero {b = false} refl) (add-zero (bit true))
     either false = rw (bit-zero {b = false} refl) (zero-add (bit true))
+
+-- of those that pass a second test, those that pass the first and those that do not
+pub count-sides : (n : ℕ) (p q : ℕ → Bool) → count n (λ k. p k && q k) + count n (λ k. not (p k) && q k) ≡ count n q
+unfolding count
+count-sides n p q =
+    sym (sum-add n (λ k. bit (p k && q k)) (λ k. bit (not (p k) && q k)))
+    ∙ sum-same n (λ k. bit (p k && q k) + bit (not (p k) && q k)) (λ k. bit (q k)) (λ k _. either (p k) (q k))
+  where
+    either : (a b : Bool) → bit (a && b) + bit (not a && b) ≡ bit b
+    either true b = rw (bit-zero {b = false} refl) (add-zero (bit b))
+    either false b = rw (bit-zero {b = false} refl) (zero-add (bit b))
 
 -- where at most one passes, some passes as often as it passes
 pub any-count : (n : ℕ) (p : ℕ → Bool) → ((j k : ℕ) → j < n → k < n → p j ≡ true → p k ≡ true → j ≡ k) → bit (any n p) ≡ count n p

@@ -1,16 +1,18 @@
 -- Laws of gathered, tabulated and picked lists, and of parts.
 use mathlib.Core.Path.{_≡_, refl, sym, ap, ap₂, _∙_, subst, fun-ext}
-use mathlib.Core.Logic.{⊎-elim, _↔_}
-use mathlib.Core.Bool.{Bool, true, false}
+use mathlib.Core.Logic.{⊎-elim, _↔_, _≢_}
+use mathlib.Core.Bool.{Bool, true, false, cond}
 use mathlib.Core.List.{List, [], _∷_, _++_, map, map-append, List·Memᴰ, List·Memᴰ·head, List·Memᴰ·tail, List·Memᴰ·not-nil, List·Memᴰ·cases-cons, List·Memᴰ·append-cases, List·Memᴰ·eq-of-singleton, Memᴰ·append-left, Memᴰ·append-right, append-nil, append-assoc, flatten}
 use Prim.Native.Nat.{ℕ, zero, suc, _+_, _-_, _*_, _≤_, _<_}
-use native.Mathlib.Nat.{le-of-suc-le-suc, not-suc-le-zero, eq-or-lt-of-le, le-refl, le-step, lt-irrefl, add-zero, add-suc, mul-zero, mul-suc}
+use native.Mathlib.Nat.{le-of-suc-le-suc, not-suc-le-zero, eq-or-lt-of-le, le-refl, le-step, lt-irrefl, zero-add, add-zero, suc-add, add-suc, mul-zero, mul-suc}
 use native.Mathlib.Numerals.{add-one}
 use native.Mathlib.Omega.{arith}
-use lib.ListN.{length, getD, take, drop, length-append, length-drop, List·getD-append}
-use lib.Seq.{length-take-le, getD-at, ext-getD}
+use lib.Dec.{eqb}
+use lib.ListN.{length, getD, set, take, drop, length-append, length-drop, length-set, List·getD-append}
+use lib.Seq.{length-take-le, getD-at, getD-set-same, getD-set-other, ext-getD}
+use borrow.Author.Tests.{eq-eqb, ne-eqb}
 use Rattle.rules.specs.Below.{bit, sum, count, gather, tabulate, only, pick}
-use Rattle.rules.specs.Laws.Truth.{not-both, is-false}
+use Rattle.rules.specs.Laws.Truth.{not-both, is-false, same-or-not}
 use Rattle.rules.specs.Laws.Count.{none-count, count-without, without, without-is, is-without}
 
 -- x is among the members of the list
@@ -100,6 +102,22 @@ module _ {ℓ} {A : Type ℓ} where
   pub tabulate-is : (n : ℕ) (f : ℕ → A) (d : A) (xs : List A) → length xs ≡ n → ((k : ℕ) → k < n → f k ≡ getD xs k d) → tabulate n f ≡ xs
   tabulate-is n f d xs e same =
       ext-getD d (tabulate n f) xs (tabulate-length n f ∙ sym e) (λ k l. let below = rw (tabulate-length n f) at l in tabulate-at n f d k below ∙ same k below)
+
+  pub tabulate-same : (n : ℕ) (f g : ℕ → A) → ((k : ℕ) → k < n → f k ≡ g k) → tabulate n f ≡ tabulate n g
+  unfolding tabulate
+  tabulate-same n f g e = gather-same n (λ k. f k ∷ []) (λ k. g k ∷ []) (λ k l. ap (λ (x : A). x ∷ []) (e k l))
+
+  -- another member at one place
+  pub tabulate-set : (n : ℕ) (f : ℕ → A) (i : ℕ) (x : A) → i < n → set (tabulate n f) i x ≡ tabulate n (λ k. cond (eqb i k) x (f k))
+  tabulate-set n f i x l =
+      sym (tabulate-is n (λ k. cond (eqb i k) x (f k)) x (set (tabulate n f) i x) (length-set (tabulate n f) i x ∙ tabulate-length n f) (λ k m. ⊎-elim
+      (λ (e : i ≡ k). rw (← e, eq-eqb i i refl, getD-set-same (tabulate n f) i x x (rw (tabulate-length n f) l)))
+      (λ (ne : i ≢ k). rw (ne-eqb i k ne, getD-set-other (tabulate n f) i k x x (λ (e : k ≡ i). ne (sym e)), tabulate-at n f x k m)) (same-or-not i k)))
+
+  -- another member behind a front
+  pub set-append-add : (xs ys : List A) (i : ℕ) (a : A) → set (xs ++ ys) (length xs + i) a ≡ xs ++ set ys i a
+  set-append-add [] ys i a = ap (λ (k : ℕ). set ys k a) (zero-add i)
+  set-append-add (x ∷ xs) ys i a = ap (λ (k : ℕ). set (x ∷ (xs ++ ys)) k a) (suc-add (length xs) i) ∙ ap (λ (zs : List A). x ∷ zs) (set-append-add xs ys i a)
 
   -- ---- parts
 

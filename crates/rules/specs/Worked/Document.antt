@@ -12,13 +12,34 @@ proposalsA = add 4 ++ add 4 ++ add 0 ++ remove 4 ++ proposal 4 3 ++ add 5 ++ add
 abbrev pub neighboursA : List ℕ
 neighboursA = row 4 3 2 1 ++ row 4 3 2 0 ++ row 4 3 1 0 ++ row 4 2 1 0 ++ row 3 2 1 0
 
+-- A's work area, by how many inside rows hold each id
+abbrev pub workA : List ℕ → List ℕ
+workA inside = neighboursA ++ inside ++ 4 ∷ 4 ∷ 4 ∷ 4 ∷ 4 ∷ []
+
+-- where no row is inside, and where row 4 alone is
+abbrev pub bareWorkA : List ℕ
+bareWorkA = workA (replicate 5 0)
+
+abbrev pub grownWorkA : List ℕ
+grownWorkA = workA (0 ∷ 1 ∷ 1 ∷ 1 ∷ 1 ∷ [])
+
+-- where the four outer rows are inside, and where all rows are
+abbrev pub skyWorkA : List ℕ
+skyWorkA = workA (4 ∷ 3 ∷ 3 ∷ 3 ∷ 3 ∷ [])
+
+abbrev pub fullWorkA : List ℕ
+fullWorkA = workA (replicate 5 4)
+
+abbrev pub skinA : List ℕ
+skinA = three 2 3 4 ++ three 1 3 4 ++ three 1 2 4 ++ three 1 2 3
+
 abbrev pub resultA : Result
 resultA =
     done 3 4
     (0 ∷ 4 ∷ 3 ∷ 0 ∷ 2 ∷ 1 ∷ 0 ∷ [])
     (marked 5 (4 ∷ []))
-    (three 2 3 4 ++ three 1 3 4 ++ three 1 2 4 ++ three 1 2 3)
-    neighboursA
+    skinA
+    grownWorkA
 
 abbrev pub wholeA : Worked
 wholeA = accepts 5 tableA (marked 5 []) proposalsA resultA
@@ -35,7 +56,7 @@ documentJobs =
     (three 2 3 6 ++ three 1 3 6 ++ three 1 2 3 ++ three 2 4 5 ++ three 1 4 5 ++ three 1 2 4 ++ three 2 5 6
     ++ three 1 5 6)
     (row 8 4 2 1 ++ row 9 5 3 0 ++ row 10 6 3 0 ++ row 11 7 1 2 ++ row 8 0 6 5 ++ row 9 1 7 4 ++ row 10 2 7 4
-    ++ row 11 3 5 6 ++ row 4 0 10 9 ++ row 5 1 11 8 ++ row 6 2 11 8 ++ row 7 3 9 10))
+    ++ row 11 3 5 6 ++ row 4 0 10 9 ++ row 5 1 11 8 ++ row 6 2 11 8 ++ row 7 3 9 10 ++ 0 ∷ 3 ∷ 3 ∷ 1 ∷ 1 ∷ 2 ∷ 2 ∷ 8 ∷ 8 ∷ 8 ∷ 6 ∷ 6 ∷ 6 ∷ 6 ∷ []))
     -- (c) B with marks on 8 and 11
     ∷ refuses 7 tableB (marked 12 (8 ∷ 11 ∷ [])) [] 12 1
     -- (d) A with mark 2 on row 3
@@ -43,7 +64,7 @@ documentJobs =
     -- (e) A with a mark on row 0, as document 02 (ii) has it
     ∷ refuses 5 tableA (marked 5 (0 ∷ [])) proposalsA 11 1
     -- (f) A with P 0
-    ∷ accepts 5 tableA (marked 5 []) [] (done 0 0 [] (marked 5 []) [] neighboursA)
+    ∷ accepts 5 tableA (marked 5 []) [] (done 0 0 [] (marked 5 []) [] bareWorkA)
     -- (g) A with its last row made 1 2 3 3
     ∷ refuses 5 (take 16 tableA ++ row 1 2 3 3) (marked 5 []) proposalsA 5 4
     -- (h) A with its last row a copy of row 3
@@ -72,16 +93,17 @@ jobA = job 5 tableA (marked 5 []) proposalsA
 abbrev pub comparedJobs : List Worked
 comparedJobs =
     -- N 4 and N 2,049
-    keeps (header 5 4 0) (lend 5 7) 2
-    ∷ keeps (header 5 2049 0) (lend 5 7) 2
+    keeps (header 5 4 0) (lend 5 5 7) 2
+    ∷ keeps (header 5 2049 0) (lend 5 5 7) 2
     -- 31 bytes
-    ∷ keeps (take 31 jobA) (lend 5 7) 1
+    ∷ keeps (take 31 jobA) (lend 5 5 7) 1
     -- A cut by a byte
-    ∷ keeps (take 172 jobA) (lend 5 7) 3
-    -- V 6 in A still runs
-    ∷ accepts 6 tableA (marked 5 []) proposalsA resultA
+    ∷ keeps (take 172 jobA) (lend 5 5 7) 3
+    -- V 6 in A still runs; no row holds id 5
+    ∷ accepts 6 tableA (marked 5 []) proposalsA
+    (done 3 4 (0 ∷ 4 ∷ 3 ∷ 0 ∷ 2 ∷ 1 ∷ 0 ∷ []) (marked 5 (4 ∷ [])) skinA (neighboursA ++ 0 ∷ 1 ∷ 1 ∷ 1 ∷ 1 ∷ 0 ∷ 4 ∷ 4 ∷ 4 ∷ 4 ∷ 4 ∷ 0 ∷ []))
     -- work one word short
-    ∷ keeps jobA (record { answers = replicate 7 9; finalMarks = replicate 5 9; triangles = replicate 30 9; work = replicate 19 9 }) 4
+    ∷ keeps jobA (record { answers = replicate 7 9; finalMarks = replicate 5 9; triangles = replicate 30 9; work = replicate 29 9 }) 4
     ∷ []
 
 pub compared-jobs : map ran comparedJobs ≡ map known comparedJobs

@@ -7,7 +7,7 @@ use Rattle.rules.specs.Job.{Lent, track, headerOf, hasPoints, pointBytes
 use Rattle.rules.specs.Made.{headerBytes, proposalBytes, cutTo, remade}
 use Rattle.rules.specs.Words.{word, words}
 use Rattle.rules.specs.Worked.{job, lend, done, Worked, ran, known, accepts, refuses, keeps, row, three, add, remove, proposal, tableA, tableB, tableC, tableD, marked}
-use Rattle.rules.specs.Worked.Document.{neighboursA, jobA}
+use Rattle.rules.specs.Worked.Document.{neighboursA, skyWorkA, fullWorkA, jobA}
 
 -- ---- jobs that catch a wrong meaning which passes all of document 01's own
 
@@ -22,7 +22,7 @@ harderJobs =
     ++ three 3 4 5)
     (row 6 3 2 1 ++ row 7 4 2 0 ++ row 8 5 1 0 ++ row 12 0 5 4 ++ row 13 1 5 3 ++ row 14 2 4 3 ++ row 9 0 8 7
     ++ row 10 1 8 6 ++ row 11 2 7 6 ++ row 12 6 11 10 ++ row 13 7 11 9 ++ row 14 8 10 9 ++ row 3 9 14 13
-    ++ row 4 10 14 12 ++ row 5 11 13 12))
+    ++ row 4 10 14 12 ++ row 5 11 13 12 ++ 0 ∷ 1 ∷ 2 ∷ 2 ∷ 1 ∷ 3 ∷ 0 ∷ 3 ∷ 6 ∷ 6 ∷ 6 ∷ 6 ∷ 6 ∷ 10 ∷ 10 ∷ 10 ∷ []))
     -- two separate rings about vertex 6, though each end lies on two far edges
     ∷ refuses 8 tableC (marked 15 (6 ∷ 14 ∷ [])) [] 12 6
     -- one closed trail passes all six far edges of vertex 2, and end 7 twice
@@ -43,6 +43,10 @@ neighboursD =
     ++ row 13 8 7 5 ++ row 14 12 11 6 ++ row 15 12 10 7 ++ row 16 11 10 8 ++ row 16 15 14 9 ++ row 16 15 13 10 ++ row 16 14 13 11
     ++ row 15 14 13 12
 
+-- D's work area, by how many inside rows hold each id
+abbrev pub workD : List ℕ → List ℕ
+workD inside = neighboursD ++ inside ++ 4 ∷ 6 ∷ 8 ∷ 10 ∷ 12 ∷ 10 ∷ 8 ∷ 6 ∷ 4 ∷ []
+
 -- from all finite rows, at f = 0 0 1 4 1 1 2 2 2 3; the add is the fourth
 abbrev pub removesD : Worked
 removesD =
@@ -52,7 +56,7 @@ removesD =
     (5 ∷ 0 ∷ 6 ∷ 0 ∷ 0 ∷ 0 ∷ 0 ∷ 0 ∷ 7 ∷ 0 ∷ [])
     (marked 17 (6 ∷ 10 ∷ 11 ∷ 12 ∷ 13 ∷ 14 ∷ 15 ∷ 16 ∷ []))
     (three 1 4 5 ++ three 1 3 5 ++ three 1 3 4 ++ three 3 4 6 ++ three 3 5 6 ++ three 4 5 6)
-    neighboursD)
+    (workD (0 ∷ 1 ∷ 0 ∷ 4 ∷ 6 ∷ 6 ∷ 5 ∷ 6 ∷ 4 ∷ [])))
 
 -- from empty marks, at f = 0 0 4 0 1 1 1 2 2 2 3; the remove is the third
 abbrev pub addsD : Worked
@@ -62,7 +66,7 @@ addsD =
     (0 ∷ 5 ∷ 0 ∷ 0 ∷ 0 ∷ 0 ∷ 6 ∷ 0 ∷ 0 ∷ 7 ∷ 0 ∷ [])
     (marked 17 (11 ∷ 12 ∷ 13 ∷ 14 ∷ 15 ∷ 16 ∷ []))
     (three 3 4 7 ++ three 3 4 6 ++ three 3 5 7 ++ three 3 5 6 ++ three 4 5 6 ++ three 4 5 7)
-    neighboursD)
+    (workD (0 ∷ 0 ∷ 0 ∷ 2 ∷ 4 ∷ 4 ∷ 5 ∷ 5 ∷ 4 ∷ [])))
 
 abbrev pub answerJobs : List Worked
 answerJobs =
@@ -75,7 +79,7 @@ answerJobs =
     (1 ∷ 1 ∷ 1 ∷ 2 ∷ 2 ∷ 2 ∷ 3 ∷ 3 ∷ 4 ∷ 0 ∷ 4 ∷ [])
     (marked 17 (16 ∷ []))
     (three 6 7 8 ++ three 5 7 8 ++ three 5 6 8 ++ three 5 6 7)
-    neighboursD)
+    (workD (0 ∷ 0 ∷ 0 ∷ 0 ∷ 0 ∷ 1 ∷ 1 ∷ 1 ∷ 1 ∷ [])))
     ∷ []
 
 pub answer-jobs : map ran answerJobs ≡ map known answerJobs
@@ -100,16 +104,16 @@ inwardD =
     (5 ∷ 0 ∷ 0 ∷ 6 ∷ 0 ∷ 0 ∷ 7 ∷ 0 ∷ 0 ∷ 0 ∷ 1 ∷ 2 ∷ 3 ∷ 4 ∷ [])
     (marked 17 (4 ∷ 5 ∷ 6 ∷ 7 ∷ 9 ∷ sky))
     (three 2 3 5 ++ three 3 4 5 ++ three 3 4 6 ++ three 2 3 6 ++ three 4 5 6 ++ three 2 5 6)
-    neighboursD)
+    (workD (4 ∷ 6 ∷ 7 ∷ 6 ∷ 7 ∷ 4 ∷ 2 ∷ 0 ∷ 0 ∷ [])))
 
 abbrev pub skyJobs : List Worked
 skyJobs =
     -- A with rows 0 to 3 marked: four triangles, and after an add of row 4 none
-    accepts 5 tableA (marked 5 sky) [] (done 0 4 [] (marked 5 sky) underSky neighboursA)
-    ∷ accepts 5 tableA (marked 5 sky) (add 4) (done 1 0 (0 ∷ []) (marked 5 (4 ∷ sky)) [] neighboursA)
+    accepts 5 tableA (marked 5 sky) [] (done 0 4 [] (marked 5 sky) underSky skyWorkA)
+    ∷ accepts 5 tableA (marked 5 sky) (add 4) (done 1 0 (0 ∷ []) (marked 5 (4 ∷ sky)) [] fullWorkA)
     -- A with all rows marked: no triangle, and a remove of row 4 is taken
-    ∷ accepts 5 tableA (marked 5 (4 ∷ sky)) [] (done 0 0 [] (marked 5 (4 ∷ sky)) [] neighboursA)
-    ∷ accepts 5 tableA (marked 5 (4 ∷ sky)) (remove 4) (done 1 4 (0 ∷ []) (marked 5 sky) underSky neighboursA)
+    ∷ accepts 5 tableA (marked 5 (4 ∷ sky)) [] (done 0 0 [] (marked 5 (4 ∷ sky)) [] fullWorkA)
+    ∷ accepts 5 tableA (marked 5 (4 ∷ sky)) (remove 4) (done 1 4 (0 ∷ []) (marked 5 sky) underSky skyWorkA)
     ∷ inwardD
     -- A with rows 0 and 1 marked, and with all but row 0: the lowest that is unlike row 0
     ∷ refuses 5 tableA (marked 5 (0 ∷ 1 ∷ [])) [] 11 2
@@ -118,7 +122,7 @@ skyJobs =
     ∷ refuses 7 tableB (marked 12 (0 ∷ 1 ∷ 2 ∷ 3 ∷ 4 ∷ 5 ∷ 6 ∷ 7 ∷ 9 ∷ 10 ∷ [])) [] 12 1
     -- A with each id one higher: no row holds id 0, so none is outer, and any marks are alike
     ∷ accepts 6 (row 1 2 3 4 ++ row 1 2 3 5 ++ row 1 2 4 5 ++ row 1 3 4 5 ++ row 2 3 4 5) (marked 5 (0 ∷ [])) []
-    (done 0 4 [] (marked 5 (0 ∷ [])) (three 2 3 4 ++ three 1 3 4 ++ three 1 2 4 ++ three 1 2 3) neighboursA)
+    (done 0 4 [] (marked 5 (0 ∷ [])) (three 2 3 4 ++ three 1 3 4 ++ three 1 2 4 ++ three 1 2 3) (neighboursA ++ 0 ∷ 1 ∷ 1 ∷ 1 ∷ 1 ∷ 0 ∷ 0 ∷ 4 ∷ 4 ∷ 4 ∷ 4 ∷ 4 ∷ []))
     ∷ []
 
 pub sky-jobs : map ran skyJobs ≡ map known skyJobs
@@ -138,29 +142,29 @@ rooms a m t w = record { answers = replicate a 9; finalMarks = replicate m 9; tr
 abbrev pub earlyJobs : List Worked
 earlyJobs =
     -- 1: no bytes at all
-    keeps [] (lend 5 7) 1
+    keeps [] (lend 5 5 7) 1
     -- 2: V, N and P below and above their limits
-    ∷ keeps (headerChanged 0 4) (lend 5 7) 2
-    ∷ keeps (headerChanged 0 1025) (lend 5 7) 2
-    ∷ keeps (headerChanged 1 4) (lend 5 7) 2
-    ∷ keeps (headerChanged 1 2049) (lend 5 7) 2
-    ∷ keeps (headerChanged 2 1025) (lend 5 7) 2
+    ∷ keeps (headerChanged 0 4) (lend 5 5 7) 2
+    ∷ keeps (headerChanged 0 1025) (lend 5 5 7) 2
+    ∷ keeps (headerChanged 1 4) (lend 5 5 7) 2
+    ∷ keeps (headerChanged 1 2049) (lend 5 5 7) 2
+    ∷ keeps (headerChanged 2 1025) (lend 5 5 7) 2
     -- 3: words 3 to 7 one off, and a byte too many
-    ∷ keeps (headerChanged 3 31) (lend 5 7) 3
-    ∷ keeps (headerChanged 4 111) (lend 5 7) 3
-    ∷ keeps (headerChanged 5 118) (lend 5 7) 3
-    ∷ keeps (headerChanged 6 172) (lend 5 7) 3
-    ∷ keeps (headerChanged 7 1) (lend 5 7) 3
-    ∷ keeps (jobA ++ 0 ∷ []) (lend 5 7) 3
+    ∷ keeps (headerChanged 3 31) (lend 5 5 7) 3
+    ∷ keeps (headerChanged 4 111) (lend 5 5 7) 3
+    ∷ keeps (headerChanged 5 118) (lend 5 5 7) 3
+    ∷ keeps (headerChanged 6 172) (lend 5 5 7) 3
+    ∷ keeps (headerChanged 7 1) (lend 5 5 7) 3
+    ∷ keeps (jobA ++ 0 ∷ []) (lend 5 5 7) 3
     -- 4: each of the rooms one short
-    ∷ keeps jobA (rooms 6 5 30 20) 4
-    ∷ keeps jobA (rooms 7 4 30 20) 4
-    ∷ keeps jobA (rooms 7 5 29 20) 4
-    ∷ keeps jobA (rooms 7 5 30 19) 4
+    ∷ keeps jobA (rooms 6 5 30 30) 4
+    ∷ keeps jobA (rooms 7 4 30 30) 4
+    ∷ keeps jobA (rooms 7 5 29 30) 4
+    ∷ keeps jobA (rooms 7 5 30 29) 4
     -- of two that apply the first is given
-    ∷ keeps (take 31 (headerChanged 0 4)) (lend 5 7) 1
-    ∷ keeps (headerChanged 0 4 ++ 0 ∷ []) (lend 5 7) 2
-    ∷ keeps (headerChanged 7 1) (rooms 7 5 30 19) 3
+    ∷ keeps (take 31 (headerChanged 0 4)) (lend 5 5 7) 1
+    ∷ keeps (headerChanged 0 4 ++ 0 ∷ []) (lend 5 5 7) 2
+    ∷ keeps (headerChanged 7 1) (rooms 7 5 30 29) 3
     ∷ []
 
 pub early-jobs : map ran earlyJobs ≡ map known earlyJobs

@@ -7,7 +7,7 @@ use Rattle.rules.specs.Words.{word, words, bytesOf}
 use Rattle.rules.specs.Job.{Lent, Result, track, headerOf, hasPoints, pointBytes}
 use Rattle.rules.specs.Made.{headerBytes, proposalBytes, cutTo, remade}
 use Rattle.rules.specs.Worked.{job, lend, done, refusal, Worked, ran, known, keeps, row, three, add, remove, tableA, tableB, marked}
-use Rattle.rules.specs.Worked.Document.{neighboursA}
+use Rattle.rules.specs.Worked.Document.{grownWorkA, skyWorkA}
 
 -- ---- a job with points
 
@@ -41,15 +41,15 @@ pointed mode rows marks proposals points =
 abbrev accepts : ℕ → List ℕ → List ℕ → List ℕ → List ℕ → Result → Worked
 accepts mode rows marks proposals points result = record {
   bytes = pointed mode rows marks proposals points;
-  lent = lend (length rows / 4) (length proposals / 2);
+  lent = lend (length points / 3) (length rows / 4) (length proposals / 2);
   result = result;
 }
 
 abbrev refuses : ℕ → List ℕ → List ℕ → List ℕ → ℕ → ℕ → Worked
 refuses mode rows marks points code place = record {
   bytes = pointed mode rows marks [] points;
-  lent = lend (length rows / 4) 0;
-  result = refusal (length rows / 4) 0 code place;
+  lent = lend (length points / 3) (length rows / 4) 0;
+  result = refusal (length points / 3) (length rows / 4) 0 code place;
 }
 
 -- ---- points for tables A and B
@@ -82,8 +82,8 @@ aroundB = pointsB (three (minus 16) 0 0) (three 0 (minus 16) 0)
 abbrev proposalsP : List ℕ
 proposalsP = add 4 ++ remove 4 ++ add 4
 
-abbrev grownA : List ℕ → Result
-grownA skin = done 3 4 (0 ∷ 0 ∷ 0 ∷ []) (marked 5 (4 ∷ [])) skin neighboursA
+abbrev grown : List ℕ → Result
+grown skin = done 3 4 (0 ∷ 0 ∷ 0 ∷ []) (marked 5 (4 ∷ [])) skin grownWorkA
 
 -- A with the sky inside
 abbrev skyA : List ℕ
@@ -96,10 +96,10 @@ abbrev outwardA : List ℕ
 outwardA = three 2 4 3 ++ three 1 3 4 ++ three 1 4 2 ++ three 1 2 3
 
 abbrev pub risingP : Worked
-risingP = accepts rising tableA (marked 5 []) proposalsP (about 16) (grownA risingA)
+risingP = accepts rising tableA (marked 5 []) proposalsP (about 16) (grown risingA)
 
 abbrev pub outwardP : Worked
-outwardP = accepts outward tableA (marked 5 []) proposalsP (about 16) (grownA outwardA)
+outwardP = accepts outward tableA (marked 5 []) proposalsP (about 16) (grown outwardA)
 
 abbrev pub orderJobs : List Worked
 orderJobs =
@@ -107,22 +107,22 @@ orderJobs =
     risingP
     ∷ outwardP
     -- without points the ids rise
-    ∷ record { bytes = job 5 tableA (marked 5 []) proposalsP; lent = lend 5 3; result = grownA risingA }
+    ∷ record { bytes = job 5 tableA (marked 5 []) proposalsP; lent = lend 5 5 3; result = grown risingA }
     -- of an outer row no volume is asked for
-    ∷ accepts outward tableA (marked 5 []) proposalsP onMiddle (grownA (three 2 3 4 ++ three 1 4 3 ++ three 1 2 4 ++ three 1 3 2))
+    ∷ accepts outward tableA (marked 5 []) proposalsP onMiddle (grown (three 2 3 4 ++ three 1 4 3 ++ three 1 2 4 ++ three 1 3 2))
     -- the greatest product that there is, on either side
-    ∷ accepts outward tableA (marked 5 []) proposalsP (about 1023) (grownA outwardA)
-    ∷ accepts outward tableA (marked 5 []) proposalsP (mirrored 1023) (grownA (three 2 3 4 ++ three 1 4 3 ++ three 1 2 4 ++ three 1 3 2))
+    ∷ accepts outward tableA (marked 5 []) proposalsP (about 1023) (grown outwardA)
+    ∷ accepts outward tableA (marked 5 []) proposalsP (mirrored 1023) (grown (three 2 3 4 ++ three 1 4 3 ++ three 1 2 4 ++ three 1 3 2))
     -- the sky inside: the row that is outside lies in front, and where the origin lies does not matter
-    ∷ accepts rising tableA skyA [] beside (done 0 4 [] skyA (three 1 2 3 ++ three 1 2 4 ++ three 1 3 4 ++ three 2 3 4) neighboursA)
-    ∷ accepts outward tableA skyA [] beside (done 0 4 [] skyA (three 1 3 2 ++ three 1 2 4 ++ three 1 4 3 ++ three 2 3 4) neighboursA)
+    ∷ accepts rising tableA skyA [] beside (done 0 4 [] skyA (three 1 2 3 ++ three 1 2 4 ++ three 1 3 4 ++ three 2 3 4) skyWorkA)
+    ∷ accepts outward tableA skyA [] beside (done 0 4 [] skyA (three 1 3 2 ++ three 1 2 4 ++ three 1 4 3 ++ three 2 3 4) skyWorkA)
     -- B whole: its eight sides
     ∷ accepts outward tableB (marked 12 (8 ∷ 9 ∷ 10 ∷ 11 ∷ [])) [] aroundB
     (done 0 8 [] (marked 12 (8 ∷ 9 ∷ 10 ∷ 11 ∷ []))
     (three 2 3 4 ++ three 1 4 3 ++ three 2 6 3 ++ three 1 3 6 ++ three 2 4 5 ++ three 1 5 4 ++ three 2 5 6
     ++ three 1 6 5)
     (row 8 4 2 1 ++ row 9 5 3 0 ++ row 10 6 3 0 ++ row 11 7 1 2 ++ row 8 0 6 5 ++ row 9 1 7 4 ++ row 10 2 7 4
-    ++ row 11 3 5 6 ++ row 4 0 10 9 ++ row 5 1 11 8 ++ row 6 2 11 8 ++ row 7 3 9 10))
+    ++ row 11 3 5 6 ++ row 4 0 10 9 ++ row 5 1 11 8 ++ row 6 2 11 8 ++ row 7 3 9 10 ++ 0 ∷ 4 ∷ 4 ∷ 2 ∷ 2 ∷ 2 ∷ 2 ∷ 8 ∷ 8 ∷ 8 ∷ 6 ∷ 6 ∷ 6 ∷ 6 ∷ []))
     ∷ []
 
 pub order-jobs : map ran orderJobs ≡ map known orderJobs
@@ -132,7 +132,7 @@ order-jobs = refl
 -- ---- codes 13 to 15, whatever order is asked for
 
 abbrev lendA : Lent
-lendA = lend 5 0
+lendA = lend 5 5 0
 
 abbrev pub pointJobs : List Worked
 pointJobs =

@@ -2,7 +2,7 @@ use lib.Seq.{length-take-le}
 use Rattle.track.specs.Outcomes.{lent}
 use native.Mathlib.Omega.{arith}
 use mathlib.Core.Path.{sym}
-use Rattle.track.specs.Headers.{header-refused, few-rows, room-refused, laid-out, work-fits, room-enough}
+use Rattle.track.specs.Headers.{header-refused, few-ids-and-rows, room-refused, laid-out, work-fits, room-enough}
 use borrow.Author.Needs.{needs}
 use Rattle.track.proofs.run.Statement.{statement}
 use Rattle.track.proofs.run.Tie as tie
@@ -10,7 +10,7 @@ use Rattle.track.proofs.run.Tie as tie
 room-short-requires : tie.Need-room-short-requires
 room-short-requires c κs =
     let start = c .before .before .before .before .before .before .before .before .before in
-    few-rows (start .args .job .now) (lent (start .args .answers .now) (start .args .final-marks .now) (start .args .triangles .now) (start .args .work .now)) (c .before .before .before .read .ensures) (c .before .h .given .1)
+    few-ids-and-rows (start .args .job .now) (lent (start .args .answers .now) (start .args .final-marks .now) (start .args .triangles .now) (start .args .work .now)) (c .before .before .before .read .ensures) (c .before .h .given .1)
 
 returns : tie.Need-returns
 returns c = room-refused _ (lent _ _ _ _) (c .before .before .before .before .before .before .read .ensures) (c .before .before .before .before .h .given .1) (c .before .before .room-short .ensures) (c .before .if1 .taken) (c .refused4 .ensures)
@@ -18,7 +18,7 @@ returns c = room-refused _ (lent _ _ _ _) (c .before .before .before .before .be
 work-room-requires : tie.Need-work-room-requires
 work-room-requires c κs =
     let start = c .before .before .before .before .before .before .before .before .before .before .before in
-    few-rows (start .args .job .now) (lent (start .args .answers .now) (start .args .final-marks .now) (start .args .triangles .now) (start .args .work .now)) (c .before .before .before .before .before .read .ensures) (c .before .before .before .h .given .1)
+    few-ids-and-rows (start .args .job .now) (lent (start .args .answers .now) (start .args .final-marks .now) (start .args .triangles .now) (start .args .work .now)) (c .before .before .before .before .before .read .ensures) (c .before .before .before .h .given .1)
 
 slice-relend-prefix-run-laid : tie.Need-slice-relend-prefix-run-laid
 slice-relend-prefix-run-laid c =

@@ -1,6 +1,6 @@
-use native.Mathlib.Nat.{le-refl}
+use native.Mathlib.Omega.{arith}
 use Rattle.track.specs.Cut.{counted}
-use Rattle.track.specs.Sections.{table-refused, work-long, ready, table-passed}
+use Rattle.track.specs.Sections.{table-refused, ready, table-passed}
 use borrow.Author.Needs.{needs}
 use Rattle.track.proofs.run_laid.Statement.{statement}
 use Rattle.track.proofs.run_laid.Tie as tie
@@ -22,7 +22,7 @@ check-requires c κs =
     let at-points-at = c .before .before in let at-proposals-at = at-points-at .before in let at-marks-at = at-proposals-at .before in let at-rows-at = at-marks-at .before in
     let start = at-rows-at .before .before .before .before .before .before in
     let rows-counted = counted (start .args .job .now) (start .pre .is) (start .pre .long) (at-rows-at .rows-at .ensures) (at-marks-at .marks-at .ensures) (at-proposals-at .proposals-at .ensures) (at-points-at .points-at .ensures) in
-    (rw rows-counted (start .pre .few), rw (rows-counted, start .pre .work-room) (le-refl _))
+    (rw rows-counted (start .pre .few), omega (arith, rows-counted, start .pre .work-room))
 
 returns : tie.Need-returns
 returns c =
@@ -46,10 +46,8 @@ run-closed-requires c κs =
     let at-points-at = at-check .before .before .before in let at-proposals-at = at-points-at .before in let at-marks-at = at-proposals-at .before in let at-rows-at = at-marks-at .before in
     let start = at-rows-at .before .before .before .before .before .before in
     let rows = at-rows-at .rows-at .ensures in let marks = at-marks-at .marks-at .ensures in let proposals = at-proposals-at .proposals-at .ensures in let points = at-points-at .points-at .ensures in
-    let (found, left) = at-check .check .ensures in (
-      ready (start .pre) rows marks proposals points _ found (at-of-table .of-table .ensures) left (at-if1 .if1 .left),
-      work-long (start .pre) rows marks proposals points _ found (at-of-table .of-table .ensures) left (at-if1 .if1 .left),
-    )
+    let (found, left) = at-check .check .ensures in
+    ready (start .pre) rows marks proposals points _ found (at-of-table .of-table .ensures) left (at-if1 .if1 .left)
 
 returns-2 : tie.Need-returns-2
 returns-2 c =

@@ -8,7 +8,7 @@ use Rattle.rules.specs.Words.{words}
 use Rattle.rules.specs.Job.{track, Lent, Result}
 use Rattle.rules.specs.Stl.{metres, bitsOf, header, facetBytes, facetsOf, fileOf, coordinates, cornersOf, skinFile, fileTests, unwritten, Exported, exported, writeSkin}
 use Rattle.rules.specs.Worked.{job, lend, done, refusal, ran, three, tableA, marked, add, remove}
-use Rattle.rules.specs.Worked.Document.{jobA, proposalsA, neighboursA, resultA}
+use Rattle.rules.specs.Worked.Document.{jobA, proposalsA, bareWorkA, grownWorkA, skyWorkA, fullWorkA, resultA}
 use Rattle.rules.specs.Worked.Ours.{sky, underSky}
 use Rattle.trips.specs.Worked.{top, four}
 
@@ -61,7 +61,7 @@ outwardA =
     (0 ∷ 4 ∷ 3 ∷ 0 ∷ 2 ∷ 1 ∷ 0 ∷ [])
     (marked 5 (4 ∷ []))
     (three 2 4 3 ++ three 1 3 4 ++ three 1 4 2 ++ three 1 2 3)
-    neighboursA
+    grownWorkA
 
 -- ---- its file
 
@@ -107,12 +107,12 @@ skyFile =
 
 pub skin-files :
     -- in just its room, and with two bytes behind it, which stay
-    Leaves (pointed 1 jobA) (lend 5 7) (room 284) outwardA fileA
-    × Leaves (pointed 1 jobA) (lend 5 7) (room 286) outwardA (fileA ++ 9 ∷ 9 ∷ [])
+    Leaves (pointed 1 jobA) (lend 5 5 7) (room 284) outwardA fileA
+    × Leaves (pointed 1 jobA) (lend 5 5 7) (room 286) outwardA (fileA ++ 9 ∷ 9 ∷ [])
     -- word 7 asks for rising ids: the list of triangles has them, the file is the same
-    × Leaves (pointed 3 jobA) (lend 5 7) (room 284) resultA fileA
+    × Leaves (pointed 3 jobA) (lend 5 5 7) (room 284) resultA fileA
     -- the sky inside: the same triangles from the other side
-    × Leaves (pointed 3 (idle (marked 5 sky))) (lend 5 0) (room 284) (done 0 4 [] (marked 5 sky) underSky neighboursA) skyFile
+    × Leaves (pointed 3 (idle (marked 5 sky))) (lend 5 5 0) (room 284) (done 0 4 [] (marked 5 sky) underSky skyWorkA) skyFile
 unfolding called
 skin-files = (refl, refl, refl, refl)
 
@@ -121,15 +121,15 @@ skin-files = (refl, refl, refl, refl)
 abbrev pub emptyFile : List ℕ
 emptyFile = top ++ four 0 0 0 0
 
--- a run of A with these marks and no proposal
-abbrev bare : List ℕ → Result
-bare marks = done 0 0 [] marks [] neighboursA
+-- a run of A with these marks and no proposal, and what it leaves in work
+abbrev bare : List ℕ → List ℕ → Result
+bare marks work = done 0 0 [] marks [] work
 
 pub empty-skins :
     -- no row inside; every row; row 4 added and removed
-    Leaves (pointed 1 (idle (marked 5 []))) (lend 5 0) (room 85) (bare (marked 5 [])) (emptyFile ++ 9 ∷ [])
-    × Leaves (pointed 1 (idle (marked 5 (4 ∷ sky)))) (lend 5 0) (room 84) (bare (marked 5 (4 ∷ sky))) emptyFile
-    × Leaves (pointed 3 (job 5 tableA (marked 5 []) (add 4 ++ remove 4))) (lend 5 2) (room 84) (done 2 0 (0 ∷ 0 ∷ []) (marked 5 []) [] neighboursA) emptyFile
+    Leaves (pointed 1 (idle (marked 5 []))) (lend 5 5 0) (room 85) (bare (marked 5 []) bareWorkA) (emptyFile ++ 9 ∷ [])
+    × Leaves (pointed 1 (idle (marked 5 (4 ∷ sky)))) (lend 5 5 0) (room 84) (bare (marked 5 (4 ∷ sky)) fullWorkA) emptyFile
+    × Leaves (pointed 3 (job 5 tableA (marked 5 []) (add 4 ++ remove 4))) (lend 5 5 2) (room 84) (done 2 0 (0 ∷ 0 ∷ []) (marked 5 []) [] bareWorkA) emptyFile
 unfolding called
 empty-skins = (refl, refl, refl)
 
@@ -141,18 +141,18 @@ badMark = job 5 tableA (set (marked 5 []) 3 2) proposalsA
 
 pub refused-skins :
     -- 20: no points, in room enough and in none, so 20 before 21
-    Keeps jobA (lend 5 7) (room 284) (unfiled 20 resultA)
-    × Keeps jobA (lend 5 7) [] (unfiled 20 resultA)
+    Keeps jobA (lend 5 5 7) (room 284) (unfiled 20 resultA)
+    × Keeps jobA (lend 5 5 7) [] (unfiled 20 resultA)
     -- 21: one byte short, in either order, and one short of an empty skin
-    × Keeps (pointed 1 jobA) (lend 5 7) (room 283) (unfiled 21 outwardA)
-    × Keeps (pointed 3 jobA) (lend 5 7) (room 283) (unfiled 21 resultA)
-    × Keeps (pointed 1 (idle (marked 5 []))) (lend 5 0) (room 83) (unfiled 21 (bare (marked 5 [])))
+    × Keeps (pointed 1 jobA) (lend 5 5 7) (room 283) (unfiled 21 outwardA)
+    × Keeps (pointed 3 jobA) (lend 5 5 7) (room 283) (unfiled 21 resultA)
+    × Keeps (pointed 1 (idle (marked 5 []))) (lend 5 5 0) (room 83) (unfiled 21 (bare (marked 5 []) bareWorkA))
     -- the job's own code and place: mark 2 on row 3, also where 20 or 21 would apply
-    × Keeps (pointed 1 badMark) (lend 5 7) (room 284) (refusal 5 7 10 3)
-    × Keeps badMark (lend 5 7) (room 284) (refusal 5 7 10 3)
-    × Keeps (pointed 1 badMark) (lend 5 7) [] (refusal 5 7 10 3)
+    × Keeps (pointed 1 badMark) (lend 5 5 7) (room 284) (refusal 5 5 7 10 3)
+    × Keeps badMark (lend 5 5 7) (room 284) (refusal 5 5 7 10 3)
+    × Keeps (pointed 1 badMark) (lend 5 5 7) [] (refusal 5 5 7 10 3)
     -- the point of id 0 not zero, and word 7 a 2
-    × Keeps (set (pointed 1 jobA) 173 1) (lend 5 7) (room 284) (refusal 5 7 13 0)
-    × Keeps (pointed 2 jobA) (lend 5 7) (room 284) (refusal 5 7 3 0)
+    × Keeps (set (pointed 1 jobA) 173 1) (lend 5 5 7) (room 284) (refusal 5 5 7 13 0)
+    × Keeps (pointed 2 jobA) (lend 5 5 7) (room 284) (refusal 5 5 7 3 0)
 unfolding called
 refused-skins = (refl, refl, refl, refl, refl, refl, refl, refl, refl, refl)

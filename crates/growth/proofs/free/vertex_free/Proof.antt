@@ -1,18 +1,21 @@
-use mathlib.Core.Path.{_∙_}
+use mathlib.Core.Path.{ap, _∙_}
+use Prim.Native.Nat.{ℕ}
+use lib.Dec.{eqb}
 use borrow.Author.Needs.{needs}
-use Rattle.table.specs.Rows.{tableIn}
-use Rattle.growth.specs.Free.{both-vertex}
+use Rattle.tallies.specs.Area.{othersAt, id-below}
+use Rattle.growth.specs.Free.{noneAt}
 use Rattle.growth.proofs.free.vertex_free.Statement.{statement}
 use Rattle.growth.proofs.free.vertex_free.Tie as tie
 
 id-at-requires : tie.Need-id-at-requires
 id-at-requires c κs = search needs
 
-both-free-requires : tie.Need-both-free-requires
-both-free-requires c κs = search needs
+others-at-requires : tie.Need-others-at-requires
+others-at-requires c κs = let start = c .before .before .before in (start .pre .0, rw (c .id-at .ensures) (id-below (start .pre .0 .1) _ _ (start .pre .1) (start .pre .2)))
 
 returns : tie.Need-returns
-returns c = c .both-free .ensures ∙ rw (c .before .id-at .ensures) (both-vertex (tableIn _) _ _ _)
+unfolding noneAt
+returns c = rw (c .others-at .ensures, c .before .id-at .ensures)
 
 pub vertex-free-spec : {M : Type 1} → statement M
-vertex-free-spec = tie.close (tie.spec id-at-requires both-free-requires returns)
+vertex-free-spec = tie.close (tie.spec id-at-requires others-at-requires returns)

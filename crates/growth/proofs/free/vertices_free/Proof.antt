@@ -4,19 +4,16 @@ use Prim.Native.Nat.{_-_}
 use borrow.Author.Needs.{needs}
 use borrow.Author.Tests.{not-true, not-false}
 use Rattle.rules.specs.Below.{all}
-use Rattle.rules.specs.Cases.{otherSide}
-use Rattle.rules.specs.Proposals.{insideIn}
 use Rattle.rules.specs.Laws.Below.{fails-all}
-use Rattle.table.specs.Rows.{tableIn}
-use Rattle.growth.specs.Free.{vertexFree, all-yet, all-of-them}
+use Rattle.growth.specs.Free.{noneAt, all-yet, all-of-them}
 use Rattle.growth.proofs.free.vertices_free.Statement.{statement}
 use Rattle.growth.proofs.free.vertices_free.Tie as tie
 
 abbrev Inv-loop : tie.InvT-loop
-Inv-loop rows marks adding row corner₀ corner = all corner (vertexFree (tableIn rows) (otherSide adding (insideIn marks)) row) ≡ true
+Inv-loop rows work ids adding row corner₀ corner = all corner (noneAt rows work ids adding row) ≡ true
 
 abbrev μ-loop : tie.MeasureT-loop
-μ-loop rows marks adding row corner₀ corner = 4 - corner
+μ-loop rows work ids adding row corner₀ corner = 4 - corner
 
 loop-holds : tie.Need-loop-holds Inv-loop μ-loop
 unfolding all

@@ -1,29 +1,41 @@
-use Rattle.track.specs.Stages.{final-room, grown}
+use Rattle.track.specs.Stages.{uncounted, counted-area, grown-ground, final-room, grown}
 use borrow.Author.Needs.{needs}
 use Rattle.track.proofs.grown.grow.Statement.{statement}
 use Rattle.track.proofs.grown.grow.Tie as tie
 
+count-rows-requires : tie.Need-count-rows-requires
+count-rows-requires c κs = uncounted (c .before .before .before .before .before .before .before .before .before .pre .0)
+
 answer-copied-requires : tie.Need-answer-copied-requires
-answer-copied-requires c κs = let r = c .before .before .before .before .before .before .before .before .before .before .pre .0 in ((_, r .ground, r .closed), r .each, r .answer-room, r .mark-room)
+answer-copied-requires c κs = let r = c .before .before .before .before .before .before .before .before .before .before .before .before .before .before .before .pre .0 in (counted-area r (c .before .before .before .before .before .count-rows .ensures), r .answer-room, r .mark-room)
 
 list-front-requires : tie.Need-list-front-requires
-list-front-requires c κs =
-    let p = c .before .before .before .before .before .before .before .before .before .before .before .before .before .before .before .before .before .pre in let r = p .0 in
-    (r .ground, final-room r (c .before .before .before .before .before .before .answer-copied .ensures .2), r .triangle-room, p .1)
+list-front-requires c κs = let start = c .before .before .before .before .before .before .before .before .before .before .before .before .before .before .before .before .before .before .before .before .before .before .before .before .before in let answers = c .before .before .before .before .before .before .before .before .before .answer-copied .ensures in (grown-ground (start .pre .0) (answers .3), final-room (start .pre .0) (answers .2), start .pre .0 .triangle-room, start .pre .1)
+
+same-length : tie.Need-same-length
+same-length c = search needs
+
+same-length-2 : tie.Need-same-length-2
+same-length-2 c = search needs
+
+same-length-3 : tie.Need-same-length-3
+same-length-3 c = search needs
+
+same-length-4 : tie.Need-same-length-4
+same-length-4 c = search needs
 
 returns : tie.Need-returns
-returns c =
-    let at-list-front = c .before .before in let at-answer-copied = at-list-front .before .before .before .before .before .before .before in let start = at-answer-copied .before .before .before .before .before .before .before .before .before .before .before in
-    grown (start .pre .0) (at-answer-copied .answer-copied .ensures .0) (at-answer-copied .answer-copied .ensures .1) (at-answer-copied .answer-copied .ensures .2)
-    (at-list-front .list-front .ensures .0) (at-list-front .list-front .ensures .1)
+returns c = grown (c .before .before .before .before .before .before .before .before .before .before .before .before .before .before .before .before .before .before .before .before .before .before .before .before .before .before .before .before .pre .0) (c .before .before .before .before .before .before .before .before .before .before .before .before .answer-copied .ensures) (c .before .before .list-front .ensures)
 
 pub grow-spec : {M : Type 1} → statement M
 grow-spec =
     tie.close
     (tie.spec
+    count-rows-requires
     answer-copied-requires
     list-front-requires
-    (λ c. search needs)
-    (λ c. search needs)
-    (λ c. search needs)
+    same-length
+    same-length-2
+    same-length-3
+    same-length-4
     returns)
