@@ -1,5 +1,5 @@
 -- Document 02 (vii) is kept: corner tallies in the work area.
-use mathlib.Core.Path.{_≡_, refl, sym, ap, _∙_, subst}
+use mathlib.Core.Path.{_≡_, refl, sym, ap, _∙_}
 use mathlib.Core.List.{List}
 use Prim.Native.Nat.{ℕ, _+_, _*_, _≤_, _<_}
 use native.Mathlib.Omega.{arith}
@@ -8,12 +8,9 @@ use Rattle.rules.specs.Proposals.{insideIn}
 use Rattle.rules.specs.Work.{tally, everyRow}
 use Rattle.rules.specs.Job.{track, headerOf, Job, jobOf, standing, finalOf, workWith, Lent, written, Result, accepted, run}
 use Rattle.rules.specs.Made.{withProposals, cutTo}
-use Rattle.rules.specs.Laws.Lists.{Exactly}
 use Rattle.rules.specs.Laws.Written.{written-at}
 use Rattle.rules.specs.Laws.Job.{job-ids, job-corners, job-rows}
 use Rattle.rules.specs.Laws.Made.{track-small}
-use Rattle.rules.specs.Reading.Rows.{Holds}
-use Rattle.rules.specs.Reading.Skin.{Inside}
 use Rattle.rules.specs.Reading.Codes.{RoomShort, accepted-header}
 use Rattle.rules.specs.Reading.Work.{work-length, work-inside, work-every, inside-tallied, every-tallied}
 use Rattle.manifold.specs.Jobs.{cut-run}

@@ -171,5 +171,5 @@ still-area {rows} {proposals} {marks₀ = marks₀} {answers₀} {ids} s a = rec
   few = s .few;
   closed = s .closed;
   each = marks-length (tableIn rows) ids proposals marks₀ answers₀ a ∙ s .each;
-  holds = a .area;
+  area = a .area;
 }

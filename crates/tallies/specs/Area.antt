@@ -1,6 +1,6 @@
 -- The work area for marks: rows of the other side at an id, and a row that goes to the other side.
 use mathlib.Core.Path.{_≡_, refl, sym, ap, _∙_}
-use mathlib.Core.Bool.{Bool, true, false, not, cond}
+use mathlib.Core.Bool.{Bool, true, false, cond}
 use mathlib.Core.List.{List, _++_}
 use Prim.Native.Nat.{ℕ, _+_, _-_, _*_, _≤_, _<_}
 use native.Mathlib.Omega.{arith}
@@ -21,14 +21,14 @@ use Rattle.rules.specs.Reading.Closed.{Closed, list-length}
 use Rattle.rules.specs.Reading.Work.{work-length, work-across, work-inside, work-every}
 use Rattle.table.specs.Rows.{rowsIn, idIn, tableIn}
 use Rattle.table.specs.Ground.{Ground, ClosedGround}
-use Rattle.tallies.specs.Steps.{shifted, Steppable, RowSteppable, stepRow, row-stepped}
+use Rattle.tallies.specs.Steps.{shifted, RowSteppable, stepRow, row-stepped}
 
 -- a closed table, a mark for each row, and the work area for these marks: what growing rests on
 pub record Area (rows work marks : List ℕ) (ids : ℕ) : Type 0 where
   pub few : rowsIn rows ≤ mostRows
   pub closed : Closed (tableIn rows) ids
   pub each : length marks ≡ rowsIn rows
-  pub holds : work ≡ workArea (tableIn rows) ids marks
+  pub area : work ≡ workArea (tableIn rows) ids marks
 
 -- by the words: of the rows that hold an id those of the other side, for a remove all less inside
 unfoldable pub othersAt : List ℕ → List ℕ → ℕ → Bool → ℕ → ℕ
@@ -41,7 +41,7 @@ module _ {rows work marks : List ℕ} {ids : ℕ} (a : Area rows work marks ids)
   t = tableIn rows
 
   pub area-long : length work ≡ 4 * rowsIn rows + 2 * ids
-  area-long = ap length (a .holds) ∙ work-length t ids marks
+  area-long = ap length (a .area) ∙ work-length t ids marks
 
   -- the neighbour list stands at its front
   pub area-ground : Ground rows work ids
@@ -49,7 +49,7 @@ module _ {rows work marks : List ℕ} {ids : ℕ} (a : Area rows work marks ids)
     few = a .few;
     paired = a .closed .paired;
     room = omega (arith, area-long);
-    at = λ r c l m. ap (λ (xs : List ℕ). getD xs (4 * r + c) 0) (a .holds) ∙ work-across t ids marks r c l m;
+    at = λ r c l m. ap (λ (xs : List ℕ). getD xs (4 * r + c) 0) (a .area) ∙ work-across t ids marks r c l m;
   }
 
   pub area-closed : ClosedGround rows work
@@ -59,10 +59,10 @@ module _ {rows work marks : List ℕ} {ids : ℕ} (a : Area rows work marks ids)
   id-below r c l m = a .closed .paired .below r l c m
 
   inside-at : (v : ℕ) → v < ids → getD work (4 * rowsIn rows + v) 0 ≡ tally t (insideIn marks) v
-  inside-at v l = ap (λ (xs : List ℕ). getD xs (4 * rowsIn rows + v) 0) (a .holds) ∙ work-inside t ids marks v l
+  inside-at v l = ap (λ (xs : List ℕ). getD xs (4 * rowsIn rows + v) 0) (a .area) ∙ work-inside t ids marks v l
 
   every-at : (v : ℕ) → v < ids → getD work (4 * rowsIn rows + ids + v) 0 ≡ tally t everyRow v
-  every-at v l = ap (λ (xs : List ℕ). getD xs (4 * rowsIn rows + ids + v) 0) (a .holds) ∙ work-every t ids marks v l
+  every-at v l = ap (λ (xs : List ℕ). getD xs (4 * rowsIn rows + ids + v) 0) (a .area) ∙ work-every t ids marks v l
 
   -- ---- rows of the other side at an id
 
@@ -97,38 +97,37 @@ module _ {rows work marks : List ℕ} {ids : ℕ} (a : Area rows work marks ids)
     there : insideIn marks′ r ≡ eqb (bit adding) 1
     there = set-inside marks r (bit adding) (rw (a .each) l)
 
-    flipped-tally : (v : ℕ) → tally t (insideIn marks′) v ≡ shifted adding (tally t (insideIn marks) v) (bit (holds t r v))
+    one-more : adding ≡ true → (v : ℕ) → tally t (insideIn marks′) v ≡ tally t (insideIn marks) v + bit (holds t r v)
     unfolding otherSide bit
+    one-more on v = tally-with t (insideIn marks) (insideIn marks′) r v l (rw on at here) (there ∙ ap (λ (b : Bool). eqb (bit b) 1) on) (set-elsewhere marks r (bit adding))
+
+    one-less : adding ≡ false → (v : ℕ) → tally t (insideIn marks) v ≡ tally t (insideIn marks′) v + bit (holds t r v)
+    unfolding otherSide bit
+    one-less off v =
+        tally-with t (insideIn marks′) (insideIn marks) r v l (there ∙ ap (λ (b : Bool). eqb (bit b) 1) off) (not-false (insideIn marks r) (rw off at here))
+        (λ s ne. sym (set-elsewhere marks r (bit adding) s ne))
+
+    flipped-tally : (v : ℕ) → tally t (insideIn marks′) v ≡ shifted adding (tally t (insideIn marks) v) (bit (holds t r v))
     flipped-tally v = go adding refl
       where
         go : (up : Bool) → adding ≡ up → tally t (insideIn marks′) v ≡ shifted up (tally t (insideIn marks) v) (bit (holds t r v))
-        go true e = tally-with t (insideIn marks) (insideIn marks′) r v l (rw e at here) (there ∙ ap (λ (b : Bool). eqb (bit b) 1) e) (set-elsewhere marks r (bit adding))
-        go false e = omega (arith, tally-with t (insideIn marks′) (insideIn marks) r v l (there ∙ ap (λ (b : Bool). eqb (bit b) 1) e) (not-false (insideIn marks r) (rw e at here)) (λ s ne. sym (set-elsewhere marks r (bit adding) s ne)))
+        go true on = one-more on v
+        go false off = omega (arith, one-less off v)
 
     pub row-flipped : {first : ℕ} → first ≡ 4 * rowsIn rows → stepRow t first adding r 4 work ≡ workArea t ids marks′
     unfolding workArea
     row-flipped {first} ef =
-        ap (stepRow t first adding r 4) (a .holds)
+        ap (stepRow t first adding r 4) (a .area)
         ∙ row-stepped t adding r ids (a .closed .paired .rising r l) (a .closed .paired .below r l) (tally t (insideIn marks)) (neighbourList t) (tabulate ids (tally t everyRow)) (ef ∙ sym (list-length t))
         ∙ ap (λ (zs : List ℕ). neighbourList t ++ (zs ++ tabulate ids (tally t everyRow))) (tabulate-same ids _ (tally t (insideIn marks′)) (λ v _. sym (flipped-tally v)))
 
     pub row-flips : {first : ℕ} → first ≡ 4 * rowsIn rows → RowSteppable t first adding r work
-    unfolding otherSide bit
     row-flips ef = rw ef (record {
       rises = a .closed .paired .rising r l;
       each = λ c m. let v = idIn rows r c in let lv = id-below r c l m in
           record {
             there = omega (arith, area-long, lv);
             most = λ _. rw (inside-at v lv) (omega (arith, tally-few t (insideIn marks) v, a .few));
-            least = λ off. rw (inside-at v lv) (some c m off);
+            least = λ off. rw (inside-at v lv) (omega (arith, one-less off v, bit-one (holds-reads t r v .1 (c, m, refl))));
           };
     })
-      where
-        some : (c : ℕ) → c < 4 → adding ≡ false → 0 < tally t (insideIn marks) (idIn rows r c)
-        some c m off =
-            let v = idIn rows r c in
-            omega (
-              arith,
-              tally-with t (insideIn marks′) (insideIn marks) r v l (there ∙ ap (λ (b : Bool). eqb (bit b) 1) off) (not-false (insideIn marks r) (rw off at here)) (λ s ne. sym (set-elsewhere marks r (bit adding) s ne)),
-              bit-one (holds-reads t r v .1 (c, m, refl)),
-            )

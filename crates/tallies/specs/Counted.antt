@@ -17,8 +17,9 @@ use Rattle.rules.specs.Laws.Truth.{not-both}
 use Rattle.rules.specs.Laws.Count.{bit-zero, count-more, count-not}
 use Rattle.rules.specs.Laws.Lists.{tabulate-length, tabulate-is, tabulate-same, part-length}
 use Rattle.rules.specs.Reading.Closed.{Paired, list-length}
+use Rattle.rules.specs.Reading.Work.{laid-length}
 use Rattle.table.specs.Rows.{rowsIn, idIn, tableIn}
-use Rattle.tallies.specs.Steps.{Steppable, RowSteppable, stepRow, row-stepped, tally-at}
+use Rattle.tallies.specs.Steps.{RowSteppable, stepRow, row-stepped, tally-at}
 
 -- rows, a mark for each, and a work area of the right length with the neighbour list at its front
 pub record Listed (rows work marks : List ℕ) (ids : ℕ) : Type 0 where
@@ -47,17 +48,7 @@ counted-all t ids marks k e l m = e ∙ ap (counted t ids marks) (le-antisymm l 
 
 pub counted-long : (t : Table) (ids : ℕ) (marks : List ℕ) (k : ℕ) {work : List ℕ} → work ≡ counted t ids marks k → length work ≡ t .corners * t .rows + 2 * ids
 unfolding counted
-counted-long t ids marks k e =
-    let inside = soFar t (insideIn marks) k in
-    let every = soFar t everyRow k in
-    ap length e ∙ omega (
-      arith,
-      length-append (neighbourList t) (tabulate ids inside ++ tabulate ids every),
-      length-append (tabulate ids inside) (tabulate ids every),
-      list-length t,
-      tabulate-length ids inside,
-      tabulate-length ids every,
-    )
+counted-long t ids marks k e = ap length e ∙ laid-length t ids (soFar t (insideIn marks) k) (soFar t everyRow k)
 
 -- none so far: the part behind the neighbour list, lent by itself, is cleared to its end
 pub counted-none : {rows work marks : List ℕ} {ids : ℕ} → Listed rows work marks ids → {n : ℕ} → n ≡ 4 * rowsIn rows → {behind : List ℕ}

@@ -279,10 +279,10 @@ uncounted g = record {
 -- what growing rests on, with the rows counted, and the list when it is done
 module _ {h : Header} {rows marks proposals points : List ℕ} {buffers : Lent} (g : Ready h rows marks proposals points buffers) where
   pub counted-area : {work : List ℕ} → work ≡ workArea (tableIn rows) (h .ids) marks → Area rows work marks (h .ids)
-  counted-area e = record { few = g .ground .few; closed = g .closed; each = g .each; holds = e }
+  counted-area e = record { few = g .ground .few; closed = g .closed; each = g .each; area = e }
 
   pub grown-ground : {work : List ℕ} → work ≡ workArea (tableIn rows) (h .ids) (finalMarks (tableIn rows) marks (proposalsIn proposals)) → Ground rows work (h .ids)
-  grown-ground e = area-ground (record { few = g .ground .few; closed = g .closed; each = final-length (tableIn rows) marks (proposalsIn proposals) ∙ g .each; holds = e })
+  grown-ground e = area-ground (record { few = g .ground .few; closed = g .closed; each = final-length (tableIn rows) marks (proposalsIn proposals) ∙ g .each; area = e })
 
 -- what an accepted job leaves, once its marks are answered and its skin is listed
 pub grown : {h : Header} {rows marks proposals points : List ℕ} {buffers : Lent} → Ready h rows marks proposals points buffers

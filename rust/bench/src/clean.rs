@@ -1,20 +1,17 @@
-//! Clean and list: what marks, rings and the skin list add to the checks of the
-//! table. The proved engine has no stage times of its own. A job from grown marks
-//! and the same job with a mark that is refused take turns, and the median of the
-//! differences is told: what else the machine does then falls out.
+//! Clean and list: what marks, rings, tallies and the skin list add to the checks
+//! of the table. The proved engine has no stage times of its own. A job from grown
+//! marks and the same job with a mark that is refused take turns, and the median
+//! of the differences is told: what else the machine does then falls out.
 
 use crate::{families, grown};
-use bench::{micros, Timed};
+use bench::{median, micros, Timed};
 use common::MOST_ROWS;
 use jobs::{Job, Random};
 use plain::Stages;
-use std::time::{Duration, Instant};
-
-/// Time given to each family and engine.
-const TIME: Duration = Duration::from_millis(1000);
+use std::time::Duration;
 
 pub(crate) fn print() {
-    println!("\nMarks, rings and skin list of a job from grown marks, medians:\n");
+    println!("\nMarks, rings, tallies and skin list of a job from grown marks, medians:\n");
     println!("| table | skin | track | plain | ratio |");
     println!("|---|---|---|---|---|");
     let random = &mut Random::new(1);
@@ -41,18 +38,14 @@ fn time(clean: &Job, refused: &Job) -> (u32, Duration, Duration) {
         whole.track_once().saturating_sub(before)
     });
     let plain = median(|| {
-        let Stages { clean, list, .. } = whole.stages();
-        clean + list
+        // There is no proposal: that stage has the tallies alone.
+        let Stages {
+            clean,
+            proposals,
+            list,
+            ..
+        } = whole.stages();
+        clean + proposals + list
     });
     (whole.outcome.triangles, track, plain)
-}
-
-fn median(mut once: impl FnMut() -> Duration) -> Duration {
-    let begun = Instant::now();
-    let mut times = Vec::new();
-    while begun.elapsed() < TIME {
-        times.push(once());
-    }
-    times.sort();
-    times[times.len() / 2]
 }

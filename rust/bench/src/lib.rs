@@ -5,6 +5,9 @@ use jobs::Job;
 use plain::Stages;
 use std::time::{Duration, Instant};
 
+/// Time given to each median.
+const TIME: Duration = Duration::from_millis(1000);
+
 /// A job with the buffers lent for it, which are not cleared between its runs,
 /// and the best time of each engine.
 pub struct Timed {
@@ -35,12 +38,17 @@ impl Timed {
         before.elapsed()
     }
 
+    /// The time of one run of `plain`.
+    pub fn plain_once(&mut self) -> Duration {
+        let before = Instant::now();
+        plain::run(&self.job, self.buffers.lend());
+        before.elapsed()
+    }
+
     /// Runs both engines once more.
     pub fn run(&mut self) {
         self.track = self.track.min(self.track_once());
-        let before = Instant::now();
-        plain::run(&self.job, self.buffers.lend());
-        self.plain = self.plain.min(before.elapsed());
+        self.plain = self.plain.min(self.plain_once());
     }
 
     /// The stages of one run of `plain`.
@@ -49,6 +57,16 @@ impl Timed {
         plain::run_timed(&self.job, self.buffers.lend(), &mut stages);
         stages
     }
+}
+
+pub fn median(mut once: impl FnMut() -> Duration) -> Duration {
+    let begun = Instant::now();
+    let mut times = Vec::new();
+    while begun.elapsed() < TIME {
+        times.push(once());
+    }
+    times.sort();
+    times[times.len() / 2]
 }
 
 pub fn micros(time: Duration) -> String {

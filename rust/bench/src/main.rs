@@ -4,6 +4,7 @@
 mod clean;
 mod early;
 mod points;
+mod proposals;
 mod stl;
 
 use bench::{micros, Timed};
@@ -72,6 +73,7 @@ fn main() {
         );
     }
     clean::print();
+    proposals::print();
     early::print();
     points::print();
     stl::print();

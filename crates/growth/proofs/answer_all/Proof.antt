@@ -16,7 +16,7 @@ abbrev μ-loop : tie.MeasureT-loop
 μ-loop rows ids proposals answers₀ marks₀ work₀ n taken₀ k₀ answers marks work taken k = length proposals / 8 - k
 
 loop-holds : tie.Need-loop-holds Inv-loop μ-loop
-loop-holds c = answering-begins _ _ _ _ _ (c .before .before .before .before .before .pre .0 .holds)
+loop-holds c = answering-begins _ _ _ _ _ (c .before .before .before .before .before .pre .0 .area)
 
 answer-one-requires : tie.Need-answer-one-requires Inv-loop μ-loop
 answer-one-requires c κs =

@@ -1,14 +1,14 @@
 -- Laws of corner tallies.
-use mathlib.Core.Path.{_≡_, refl, sym, ap, _∙_}
+use mathlib.Core.Path.{_≡_, _∙_}
 use mathlib.Core.Logic.{_≢_}
 use mathlib.Core.Bool.{Bool, true, false, not, _&&_}
 use mathlib.Core.List.{List}
 use Prim.Native.Nat.{ℕ, _+_, _-_, _≤_, _<_}
 use native.Mathlib.Omega.{arith}
 use lib.Dec.{eqb}
-use lib.ListN.{length, getD, set}
+use lib.ListN.{length, set}
 use lib.Seq.{getD-set-same, getD-set-other}
-use Rattle.rules.specs.Below.{any, bit, count}
+use Rattle.rules.specs.Below.{any, bit}
 use Rattle.rules.specs.Table.{Table, holds}
 use Rattle.rules.specs.Proposals.{insideIn}
 use Rattle.rules.specs.Work.{tally, everyRow}

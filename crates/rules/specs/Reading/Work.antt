@@ -1,6 +1,6 @@
 -- What each word of the work area says.
 use mathlib.Core.Path.{_≡_, refl, sym, ap, _∙_}
-use mathlib.Core.Bool.{Bool, true, _&&_}
+use mathlib.Core.Bool.{_&&_}
 use mathlib.Core.List.{List, _++_, append-assoc}
 use Prim.Native.Nat.{ℕ, _+_, _*_, _≤_, _<_}
 use native.Mathlib.Nat.{mul-le-mul-left, mul-suc}
@@ -17,6 +17,17 @@ use Rattle.rules.specs.Reading.Rows.{Holds, holds-reads}
 use Rattle.rules.specs.Reading.Skin.{Inside, inside-reads}
 use Rattle.rules.specs.Reading.Closed.{list-length, list-at}
 
+-- a word for each id behind the neighbour list, and then another
+pub laid-length : (t : Table) (idCount : ℕ) (f g : ℕ → ℕ) → length (neighbourList t ++ (tabulate idCount f ++ tabulate idCount g)) ≡ t .corners * t .rows + 2 * idCount
+laid-length t idCount f g = omega (
+  arith,
+  length-append (neighbourList t) (tabulate idCount f ++ tabulate idCount g),
+  length-append (tabulate idCount f) (tabulate idCount g),
+  list-length t,
+  tabulate-length idCount f,
+  tabulate-length idCount g,
+)
+
 module _ (t : Table) (idCount : ℕ) (marks : List ℕ) where
   abbrev list : List ℕ
   list = neighbourList t
@@ -29,8 +40,7 @@ module _ (t : Table) (idCount : ℕ) (marks : List ℕ) where
 
   pub work-length : length (workArea t idCount marks) ≡ t .corners * t .rows + 2 * idCount
   unfolding workArea
-  work-length =
-      omega (arith, length-append list (inside ++ every), length-append inside every, list-length t, tabulate-length idCount (tally t (insideIn marks)), tabulate-length idCount (tally t everyRow))
+  work-length = laid-length t idCount (tally t (insideIn marks)) (tally t everyRow)
 
   pub list-shorter : length (neighbourList t) ≤ length (workArea t idCount marks)
   list-shorter = omega (arith, list-length t, work-length)

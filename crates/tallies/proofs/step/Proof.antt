@@ -1,5 +1,4 @@
 use native.Mathlib.Omega.{arith}
-use mathlib.Core.Path.{refl}
 use Rattle.tallies.proofs.step.Statement.{statement}
 use Rattle.tallies.proofs.step.Tie as tie
 

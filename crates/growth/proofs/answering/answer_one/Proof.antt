@@ -46,7 +46,7 @@ same-length-3 c = search needs
 returns : tie.Need-returns
 returns c =
     let start = c .before .before .before .before .before .before .before .before .before .before .before in let at-answer = c .before in let row = at-answer .before .before .before .before .word-at .ensures in let kind = at-answer .before .before .before .word-at2 .ensures in let given = at-answer .answer .ensures in let t = tableIn (start .args .rows .now) in
-    (none-taken t _ _ _ row kind given (c .if1 .taken), ap (λ (a : ℕ). set (start .args .answers .now) (start .args .k) a) (given-is t _ _ _ row kind given), row-kept t _ _ _ row kind given (c .if1 .taken), start .pre .0 .holds)
+    (none-taken t _ _ _ row kind given (c .if1 .taken), ap (λ (a : ℕ). set (start .args .answers .now) (start .args .k) a) (given-is t _ _ _ row kind given), row-kept t _ _ _ row kind given (c .if1 .taken), start .pre .0 .area)
 
 flip-row-requires : tie.Need-flip-row-requires
 flip-row-requires c κs =

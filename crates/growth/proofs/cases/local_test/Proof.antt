@@ -1,5 +1,4 @@
 use mathlib.Core.Path.{sym, _∙_}
-use borrow.Author.Needs.{needs}
 use native.Mathlib.Omega.{arith}
 use Rattle.tallies.specs.Area.{area-ground, area-closed}
 use Rattle.growth.specs.Free.{none-free, none-free-all}

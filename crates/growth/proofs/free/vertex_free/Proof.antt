@@ -1,8 +1,5 @@
-use mathlib.Core.Path.{ap, _∙_}
-use Prim.Native.Nat.{ℕ}
-use lib.Dec.{eqb}
 use borrow.Author.Needs.{needs}
-use Rattle.tallies.specs.Area.{othersAt, id-below}
+use Rattle.tallies.specs.Area.{id-below}
 use Rattle.growth.specs.Free.{noneAt}
 use Rattle.growth.proofs.free.vertex_free.Statement.{statement}
 use Rattle.growth.proofs.free.vertex_free.Tie as tie
