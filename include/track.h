@@ -297,8 +297,9 @@ extern "C" {
  *              then by the corner of the row that the triangle leaves out, 0 to
  *              3. Each is three ids, outward or rising as word 7 asks. There
  *              are at most 2N.
- * work         TRACK_WORK_LEN words, at most 10,240. Code 0 leaves the
- *              neighbour list there, and behind it two tallies of each id:
+ * work         TRACK_WORK_LEN(V, N) words, at most 10,240; V and N are words 0
+ *              and 1 of the job. Code 0 leaves the neighbour list there, behind
+ *              it V words and then V words more, the tallies of the ids:
  *
  *                  word           is
  *                  4r + c         the row across the triangle of row r that
@@ -311,10 +312,11 @@ extern "C" {
  *              outer rows there are. An id that no row holds has 0 and 0.
  *              Codes 1 to 4 leave work as it was; codes 5 to 15 leave zero in
  *              its first 4N + 2V words. Earlier it was 4N words long and had
- *              no tallies: with so much the code is TRACK_CODE_ROOM.
+ *              no tallies: with so much the code is TRACK_CODE_ROOM for every
+ *              job, and with 8,192 words for each where 4N + 2V is more.
  * outcome      TRACK_OUTCOME_LEN words
  *
- * Of each buffer, what stands behind these bytes and words is never changed. */
+ * Of each buffer, what stands behind what is left there is never changed. */
 void track_run(const uint8_t *job, size_t job_len,
                uint8_t *answers, size_t answers_len,
                uint8_t *final_marks, size_t final_marks_len,
