@@ -10,6 +10,7 @@ use round::Stop;
 use round::turn;
 use table::Broken;
 use tallies::flip_row;
+use tallies::others_at;
 use values::Found;
 ghost use mathlib.Core.Path.{_≡_};
 ghost use mathlib.Core.Logic.{_≢_};
@@ -24,7 +25,7 @@ ghost use Rattle.rules.specs.Skin.{ringless};
 ghost use Rattle.rules.specs.Points.{pointIn};
 ghost use Rattle.rules.specs.Cases.{otherSide};
 ghost use Rattle.rules.specs.Proposals.{insideIn};
-ghost use Rattle.rules.specs.Work.{workArea};
+ghost use Rattle.rules.specs.Work.{tally, workArea};
 ghost use Rattle.rules.specs.Job.{track, mostIds, mostRows, written, layoutTests, tableTests, markTests, pointTests};
 ghost use Rattle.job.specs.Reading.{header};
 ghost use Rattle.table.specs.Rows.{tableIn, rowsIn};
@@ -88,6 +89,20 @@ pub(crate) fn stop_found(
     ensures { λ r. ⌜ TheStop (tableIn (now (rows .entry))) (insideIn (now (marks .entry))) a b first second r ⌝ }
 {
     turn(rows, neighbours, marks, a, b, first, second)
+}
+
+pub(crate) fn others_counted(
+    rows: &[u8],
+    work: &[u32],
+    ids: usize,
+    marks: &[u8],
+    adding: bool,
+    id: usize,
+) -> usize
+    requires { ⌜ Area (now rows) (now work) (now marks) ids × (id < ids) ⌝ }
+    ensures { λ r. ⌜ r ≡ tally (tableIn (now (rows .entry))) (otherSide adding (insideIn (now (marks .entry)))) id ⌝ }
+{
+    others_at(rows, work, ids, adding, id)
 }
 
 pub(crate) fn row_flipped(

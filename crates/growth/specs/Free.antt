@@ -1,19 +1,17 @@
 -- Faces that are free of the other side: edges asked of their ids, vertices of the corner tallies.
 use mathlib.Core.Path.{_≡_, refl, sym, ap, _∙_}
 use mathlib.Core.Bool.{Bool, true, false, not, _&&_, cond, Bool·beq, and-true}
-use mathlib.Core.List.{List, [], _∷_}
+use mathlib.Core.List.{[], _∷_}
 use Prim.Native.Nat.{ℕ, _+_, _≤_, _<_}
 use native.Mathlib.Omega.{arith}
 use lib.Dec.{eqb}
 use Rattle.rules.specs.Below.{any, all}
 use Rattle.rules.specs.Table.{Table, holds, holdsFace}
-use Rattle.rules.specs.Cases.{otherSide, free}
-use Rattle.rules.specs.Proposals.{insideIn}
+use Rattle.rules.specs.Cases.{free}
+use Rattle.rules.specs.Work.{tally}
 use Rattle.rules.specs.Laws.Truth.{and-both}
-use Rattle.rules.specs.Laws.Below.{all-more, any-here, any-same, all-same, all-each, each-all}
+use Rattle.rules.specs.Laws.Below.{all-more, any-here, any-same, all-each, each-all}
 use Rattle.rules.specs.Laws.Work.{tally-none}
-use Rattle.table.specs.Rows.{tableIn, rowsIn, idIn}
-use Rattle.tallies.specs.Area.{Area, othersAt, others-tallied, id-below}
 
 pub other-side : (inside adding : Bool) → Bool·beq inside adding ≡ cond adding inside (not inside)
 other-side true true = refl
@@ -44,23 +42,9 @@ module _ (t : Table) (other : ℕ → Bool) where
 
 -- ---- vertices, by the corner tallies
 
--- the tallies say that no row of the other side holds the vertex of row r at a corner
-unfoldable pub noneAt : List ℕ → List ℕ → ℕ → Bool → ℕ → ℕ → Bool
-noneAt rows work ids adding r c = eqb (othersAt rows work ids adding (idIn rows r c)) 0
-
-module _ {rows work marks : List ℕ} {ids : ℕ} (a : Area rows work marks ids) (adding : Bool) (r : ℕ) (l : r < rowsIn rows) where
-  abbrev other : ℕ → Bool
-  other = otherSide adding (insideIn marks)
-
-  pub none-free : (c : ℕ) → c < 4 → noneAt rows work ids adding r c ≡ vertexFree (tableIn rows) (otherSide adding (insideIn marks)) r c
-  unfolding noneAt vertexFree free holdsFace
-  none-free c m =
-      let v = idIn rows r c in
-      rw (others-tallied a adding v (id-below a r c l m)) (tally-none (tableIn rows) other v
-      ∙ ap not (any-same (rowsIn rows) _ _ (λ s _. ap (λ (b : Bool). other s && b) (sym (and-true (holds (tableIn rows) s v))))))
-
-  pub none-free-all : all 4 (noneAt rows work ids adding r) ≡ all 4 (vertexFree (tableIn rows) (otherSide adding (insideIn marks)) r)
-  none-free-all = all-same 4 _ _ none-free
+pub none-free : (t : Table) (other : ℕ → Bool) (r c : ℕ) → eqb (tally t other (t .id r c)) 0 ≡ vertexFree t other r c
+unfolding vertexFree free holdsFace
+none-free t other r c = tally-none t other (t .id r c) ∙ ap not (any-same (t .rows) _ _ (λ s _. ap (λ (b : Bool). other s && b) (sym (and-true (holds t s (t .id r c))))))
 
 -- ---- asked corner by corner
 

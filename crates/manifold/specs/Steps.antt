@@ -18,7 +18,7 @@ use Rattle.rules.specs.Proposals.{Proposal, insideIn, adds, answer, RefusedByCa
 use Rattle.rules.specs.Laws.Truth.{is-false, same-or-not, or-reads, eqb-reads}
 use Rattle.rules.specs.Laws.Lists.{Among, only-length}
 use Rattle.rules.specs.Laws.Cases.{passed-exactly, refused-exactly, refused-at-exactly}
-use Rattle.rules.specs.Laws.Proposals.{answer-is, answers-append, final-append}
+use Rattle.rules.specs.Laws.Proposals.{answer-is, answers-append, final-append, set-inside, set-elsewhere}
 use Rattle.rules.specs.Laws.First.{conditionAt}
 use Rattle.rules.specs.Reading.Rows.{Holds, holds-reads}
 use Rattle.rules.specs.Reading.Closed.{Closed}
@@ -33,17 +33,11 @@ use Rattle.manifold.specs.Decide.{cases-decide}
 abbrev pub flipped : List ℕ → Proposal → List ℕ
 flipped marks p = set marks (p .row) (bit (adds p))
 
-mark-of : (b : Bool) → eqb (bit b) 1 ≡ b
-unfolding bit
-mark-of true = refl
-mark-of false = refl
-
 flip-at : (marks : List ℕ) (p : Proposal) → p .row < length marks → insideIn marks (p .row) ≡ not (adds p)
     → FlipAt (insideIn marks) (insideIn (flipped marks p)) (p .row)
-unfolding insideIn
 flip-at marks p l e = record {
-  named = ap (λ (m : ℕ). eqb m 1) (getD-set-same marks (p .row) (bit (adds p)) 0 l) ∙ mark-of (adds p) ∙ sym (Bool·not-not (adds p)) ∙ ap not (sym e);
-  others = λ s ne. ap (λ (m : ℕ). eqb m 1) (getD-set-other marks (p .row) s (bit (adds p)) 0 ne);
+  named = set-inside marks (p .row) (adds p) l ∙ sym (Bool·not-not (adds p)) ∙ ap not (sym e);
+  others = set-elsewhere marks (p .row) (bit (adds p));
 }
 
 -- ---- a proposal that passes tests 1 to 4

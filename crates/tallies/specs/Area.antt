@@ -1,10 +1,9 @@
 -- The work area for marks: rows of the other side at an id, and a row that goes to the other side.
 use mathlib.Core.Path.{_≡_, refl, sym, ap, _∙_}
-use mathlib.Core.Bool.{Bool, true, false, cond}
+use mathlib.Core.Bool.{Bool, true, false}
 use mathlib.Core.List.{List, _++_}
 use Prim.Native.Nat.{ℕ, _+_, _-_, _*_, _≤_, _<_}
 use native.Mathlib.Omega.{arith}
-use lib.Dec.{eqb}
 use lib.ListN.{length, getD, set}
 use borrow.Author.Tests.{not-false}
 use Rattle.rules.specs.Below.{bit, tabulate}
@@ -15,7 +14,8 @@ use Rattle.rules.specs.Work.{tally, everyRow, workArea}
 use Rattle.rules.specs.Job.{mostRows}
 use Rattle.rules.specs.Laws.Count.{bit-one}
 use Rattle.rules.specs.Laws.Lists.{tabulate-same}
-use Rattle.rules.specs.Laws.Work.{tally-few, tally-sides, tally-with, set-inside, set-elsewhere}
+use Rattle.rules.specs.Laws.Proposals.{set-inside, set-elsewhere}
+use Rattle.rules.specs.Laws.Work.{tally-few, tally-sides, tally-with}
 use Rattle.rules.specs.Reading.Rows.{holds-reads}
 use Rattle.rules.specs.Reading.Closed.{Closed, list-length}
 use Rattle.rules.specs.Reading.Work.{work-length, work-across, work-inside, work-every}
@@ -29,12 +29,6 @@ pub record Area (rows work marks : List ℕ) (ids : ℕ) : Type 0 where
   pub closed : Closed (tableIn rows) ids
   pub each : length marks ≡ rowsIn rows
   pub area : work ≡ workArea (tableIn rows) ids marks
-
--- by the words: of the rows that hold an id those of the other side, for a remove all less inside
-unfoldable pub othersAt : List ℕ → List ℕ → ℕ → Bool → ℕ → ℕ
-othersAt rows work ids adding id =
-    let inside = getD work (4 * rowsIn rows + id) 0 in
-    cond adding inside (getD work (4 * rowsIn rows + ids + id) 0 - inside)
 
 module _ {rows work marks : List ℕ} {ids : ℕ} (a : Area rows work marks ids) where
   abbrev t : Table
@@ -66,27 +60,25 @@ module _ {rows work marks : List ℕ} {ids : ℕ} (a : Area rows work marks ids)
 
   -- ---- rows of the other side at an id
 
-  no-fewer : (v : ℕ) → v < ids → getD work (4 * rowsIn rows + v) 0 ≤ getD work (4 * rowsIn rows + ids + v) 0
-  no-fewer v l = omega (arith, inside-at v l, every-at v l, tally-sides t (insideIn marks) v)
+  -- by what the code reads: for an add inside, for a remove all less inside
+  module _ {first : ℕ} (ef : first ≡ 4 * rowsIn rows) {v : ℕ} (l : v < ids) {inside : ℕ} (ei : inside ≡ getD work (first + v) 0) where
+    read-inside : inside ≡ tally t (insideIn marks) v
+    read-inside = ei ∙ rw ef (inside-at v l)
 
-  pub others-tallied : (adding : Bool) (v : ℕ) → v < ids → othersAt rows work ids adding v ≡ tally t (otherSide adding (insideIn marks)) v
-  unfolding othersAt otherSide
-  others-tallied true v l = inside-at v l
-  others-tallied false v l = omega (arith, inside-at v l, every-at v l, tally-sides t (insideIn marks) v)
+    pub others-add : {adding : Bool} → adding ≡ true → inside ≡ tally t (otherSide adding (insideIn marks)) v
+    unfolding otherSide
+    others-add on = rw on read-inside
 
-  -- as the code asks it
-  module _ {first : ℕ} (ef : first ≡ 4 * rowsIn rows) (v : ℕ) {inside : ℕ} (ei : inside ≡ getD work (first + v) 0) where
-    pub others-add : {adding : Bool} → adding ≡ true → inside ≡ othersAt rows work ids adding v
-    unfolding othersAt
-    others-add on = ei ∙ rw (ef, on)
+    module _ {every : ℕ} (ee : every ≡ getD work (first + ids + v) 0) where
+      read-every : every ≡ tally t everyRow v
+      read-every = ee ∙ rw ef (every-at v l)
 
-    module _ (l : v < ids) {every : ℕ} (ee : every ≡ getD work (first + ids + v) 0) where
       pub others-fit : inside ≤ every
-      others-fit = rw (ei, ee, ef) (no-fewer v l)
+      others-fit = omega (arith, read-inside, read-every, tally-sides t (insideIn marks) v)
 
-      pub others-remove : {adding : Bool} → adding ≡ false → every - inside ≡ othersAt rows work ids adding v
-      unfolding othersAt
-      others-remove off = rw (ei, ee, ef, off)
+      pub others-remove : {adding : Bool} → adding ≡ false → every - inside ≡ tally t (otherSide adding (insideIn marks)) v
+      unfolding otherSide
+      others-remove off = rw off (omega (arith, read-inside, read-every, tally-sides t (insideIn marks) v))
 
   -- ---- a row that goes to the other side
 
@@ -94,17 +86,17 @@ module _ {rows work marks : List ℕ} {ids : ℕ} (a : Area rows work marks ids)
     abbrev marks′ : List ℕ
     marks′ = set marks r (bit adding)
 
-    there : insideIn marks′ r ≡ eqb (bit adding) 1
-    there = set-inside marks r (bit adding) (rw (a .each) l)
+    there : insideIn marks′ r ≡ adding
+    there = set-inside marks r adding (rw (a .each) l)
 
     one-more : adding ≡ true → (v : ℕ) → tally t (insideIn marks′) v ≡ tally t (insideIn marks) v + bit (holds t r v)
-    unfolding otherSide bit
-    one-more on v = tally-with t (insideIn marks) (insideIn marks′) r v l (rw on at here) (there ∙ ap (λ (b : Bool). eqb (bit b) 1) on) (set-elsewhere marks r (bit adding))
+    unfolding otherSide
+    one-more on v = tally-with t (insideIn marks) (insideIn marks′) r v l (rw on at here) (there ∙ on) (set-elsewhere marks r (bit adding))
 
     one-less : adding ≡ false → (v : ℕ) → tally t (insideIn marks) v ≡ tally t (insideIn marks′) v + bit (holds t r v)
-    unfolding otherSide bit
+    unfolding otherSide
     one-less off v =
-        tally-with t (insideIn marks′) (insideIn marks) r v l (there ∙ ap (λ (b : Bool). eqb (bit b) 1) off) (not-false (insideIn marks r) (rw off at here))
+        tally-with t (insideIn marks′) (insideIn marks) r v l (there ∙ off) (not-false (insideIn marks r) (rw off at here))
         (λ s ne. sym (set-elsewhere marks r (bit adding) s ne))
 
     flipped-tally : (v : ℕ) → tally t (insideIn marks′) v ≡ shifted adding (tally t (insideIn marks) v) (bit (holds t r v))

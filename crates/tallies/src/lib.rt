@@ -13,12 +13,12 @@ ghost use lib.ListN.{set};
 ghost use Rattle.rules.specs.Below.{bit};
 ghost use Rattle.rules.specs.Cases.{otherSide};
 ghost use Rattle.rules.specs.Proposals.{insideIn};
-ghost use Rattle.rules.specs.Work.{workArea};
+ghost use Rattle.rules.specs.Work.{tally, workArea};
 ghost use Rattle.rules.specs.Job.{mostRows};
 ghost use Rattle.table.specs.Rows.{tableIn, rowsIn};
 ghost use Rattle.tallies.specs.Steps.{shifted, Steppable, RowSteppable, stepAt, stepRow};
 ghost use Rattle.tallies.specs.Counted.{Listed, counted};
-ghost use Rattle.tallies.specs.Area.{Area, othersAt};
+ghost use Rattle.tallies.specs.Area.{Area};
 
 // One more, or one less.
 fn step(n: u32, up: bool) -> u32
@@ -92,7 +92,8 @@ pub fn count_rows(rows: &[u8], marks: &[u8], ids: usize, work: &mut [u32])
 // How many rows of the other side hold an id: for an add the inside rows, for a remove all less these.
 pub fn others_at(rows: &[u8], work: &[u32], ids: usize, adding: bool, id: usize) -> usize
     requires { ⌜ ((marks : List ℕ) × Area (now rows) (now work) marks ids) × (id < ids) ⌝ }
-    ensures { λ r. ⌜ r ≡ othersAt (now (rows .entry)) (now (work .entry)) ids adding id ⌝ }
+    ensures { λ r. ⌜ ((marks : List ℕ) → Area (now (rows .entry)) (now (work .entry)) marks ids
+        → r ≡ tally (tableIn (now (rows .entry))) (otherSide adding (insideIn marks)) id) ⌝ }
 {
     let first = tallies_at(rows);
     let inside = from_u32(work[first + id]);

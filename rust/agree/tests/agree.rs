@@ -55,7 +55,7 @@ fn random_jobs() {
 #[test]
 fn large_jobs() {
     with_stack(|| {
-        let rounds = setting("AGREE_JOBS", 20_000) / 800;
+        let rounds = setting("AGREE_JOBS", 20_000) / 500;
         let first = setting("AGREE_SEED", 1);
         let mut comparer = comparer();
         for number in (first..).take(rounds as usize) {
@@ -73,7 +73,7 @@ fn large_jobs() {
             }
         }
         comparer.report("large jobs");
-        if rounds >= 25 {
+        if rounds >= 40 {
             let Comparer {
                 codes,
                 answers,
@@ -82,7 +82,7 @@ fn large_jobs() {
             } = comparer;
             assert!(codes[0] >= 60, "{codes:?}");
             assert!(turned.iter().all(|&lists| lists >= 5), "{turned:?}");
-            assert!(comparer.each_answer(20), "{answers:?}");
+            assert!(comparer.each_answer(50), "{answers:?}");
         }
     });
 }

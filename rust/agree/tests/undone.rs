@@ -4,7 +4,7 @@
 
 use agree::{setting, with_stack};
 use common::{Buffers, Outcome};
-use jobs::{cases, growth, tables, tallies, Job, Random};
+use jobs::{cases, tallies, Job, Random};
 use std::fs;
 
 /// What a run gave and left.
@@ -131,12 +131,7 @@ fn every_cut() {
             assert_eq!(tallies::of_each_cut(&job, track::run), Ok(taken), "{name}");
         }
         let mut all_taken = 0;
-        for number in 0..40 {
-            let random = &mut Random::new(number);
-            let (family, table) = tables::any(100, random);
-            let mut job = table.job();
-            job.marks = growth::even_marks(&table, random.pick(&[0, 1]), random.pick(&[0, 1]));
-            growth::propose(&mut job, 60, random.pick(&[20, 50, 80]), random);
+        for (family, job) in tallies::jobs_to_cut() {
             all_taken += tallies::of_each_cut(&job, track::run).expect(family);
         }
         assert!(all_taken >= 500, "{all_taken}");

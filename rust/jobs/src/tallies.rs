@@ -1,6 +1,6 @@
 //! Corner tallies recounted: what a run leaves behind the neighbour list.
 
-use crate::Job;
+use crate::{growth, tables, Job, Random};
 use common::{Buffers, Lent, Outcome};
 
 /// What is wrong with the tallies in the work area that a run of this job left,
@@ -45,6 +45,18 @@ pub fn of_each_cut(
         }
     }
     Ok(taken)
+}
+
+/// Jobs to be looked at after each proposal, with the families of their tables.
+pub fn jobs_to_cut() -> impl Iterator<Item = (&'static str, Job)> {
+    (0..40).map(|number| {
+        let random = &mut Random::new(number);
+        let (family, table) = tables::any(100, random);
+        let mut job = table.job();
+        job.marks = growth::even_marks(&table, random.pick(&[0, 1]), random.pick(&[0, 1]));
+        growth::propose(&mut job, 60, random.pick(&[20, 50, 80]), random);
+        (family, job)
+    })
 }
 
 #[cfg(test)]

@@ -75,12 +75,7 @@ fn every_cut() {
         assert_eq!(tallies::of_each_cut(&job, plain::run), Ok(taken), "{name}");
     }
     let mut all_taken = 0;
-    for number in 0..40 {
-        let random = &mut Random::new(number);
-        let (family, table) = tables::any(100, random);
-        let mut job = table.job();
-        job.marks = growth::even_marks(&table, random.pick(&[0, 1]), random.pick(&[0, 1]));
-        growth::propose(&mut job, 60, random.pick(&[20, 50, 80]), random);
+    for (family, job) in tallies::jobs_to_cut() {
         all_taken += tallies::of_each_cut(&job, plain::run).expect(family);
     }
     assert!(all_taken >= 500, "{all_taken}");

@@ -1,6 +1,6 @@
 //! The slow engine against `plain` on small jobs: outcome and every byte and
-//! word of every buffer; the tallies against a recount, too. AGREE_JOBS sets the number of random jobs and
-//! AGREE_SEED the number of the first.
+//! word of every buffer; the tallies against a recount, too. AGREE_JOBS sets the
+//! number of random jobs and AGREE_SEED the number of the first.
 
 use common::{Buffers, Outcome, Rooms};
 use jobs::{cases, growth, outward, placed, tables, tallies, Job, Random};

@@ -1,13 +1,14 @@
 -- Laws of answering: one proposal by its tests, and a list of proposals, one part after the other.
 use mathlib.Core.Path.{_≡_, refl, ap, _∙_}
-use mathlib.Core.Logic.{⊎-elim}
-use mathlib.Core.Bool.{true, false, not, _||_, cond}
+use mathlib.Core.Logic.{⊎-elim, _≢_}
+use mathlib.Core.Bool.{Bool, true, false, not, _||_, cond}
 use mathlib.Core.List.{List, [], _∷_, _++_}
 use Prim.Native.Nat.{ℕ, zero, suc, _+_, _≤_, _<_}
 use native.Mathlib.Nat.{add-comm, not-suc-le-zero, le-of-suc-le-suc}
 use native.Mathlib.Omega.{arith}
 use lib.Dec.{eqb, ltb}
-use lib.ListN.{length, getD, take, length-set}
+use lib.ListN.{length, getD, set, take, length-set}
+use lib.Seq.{getD-set-same, getD-set-other}
 use Rattle.rules.specs.Below.{bit}
 use Rattle.rules.specs.Table.{Table, holds, outer}
 use Rattle.rules.specs.Cases.{otherSide, caseAnswer}
@@ -79,3 +80,18 @@ pub taken-few : (xs : List ℕ) → taken xs ≤ length xs
 unfolding taken
 taken-few [] = omega arith
 taken-few (x ∷ xs) = omega (arith, taken-few xs, bit-small (eqb x 0))
+
+-- ---- a mark that is set
+
+module _ (marks : List ℕ) (r : ℕ) where
+  pub set-inside : (b : Bool) → r < length marks → insideIn (set marks r (bit b)) r ≡ b
+  unfolding insideIn bit
+  set-inside b l = ap (λ (m : ℕ). eqb m 1) (getD-set-same marks r (bit b) 0 l) ∙ is-one b
+    where
+      is-one : (b : Bool) → eqb (bit b) 1 ≡ b
+      is-one true = refl
+      is-one false = refl
+
+  pub set-elsewhere : (mark s : ℕ) → s ≢ r → insideIn (set marks r mark) s ≡ insideIn marks s
+  unfolding insideIn
+  set-elsewhere mark s ne = ap (λ (m : ℕ). eqb m 1) (getD-set-other marks r s mark 0 ne)

@@ -2,15 +2,11 @@
 use mathlib.Core.Path.{_≡_, _∙_}
 use mathlib.Core.Logic.{_≢_}
 use mathlib.Core.Bool.{Bool, true, false, not, _&&_}
-use mathlib.Core.List.{List}
 use Prim.Native.Nat.{ℕ, _+_, _-_, _≤_, _<_}
 use native.Mathlib.Omega.{arith}
 use lib.Dec.{eqb}
-use lib.ListN.{length, set}
-use lib.Seq.{getD-set-same, getD-set-other}
 use Rattle.rules.specs.Below.{any, bit}
 use Rattle.rules.specs.Table.{Table, holds}
-use Rattle.rules.specs.Proposals.{insideIn}
 use Rattle.rules.specs.Work.{tally, everyRow}
 use Rattle.rules.specs.Laws.Count.{count-none, count-with, count-sides, count-not}
 
@@ -35,14 +31,3 @@ module _ (t : Table) where
   unfolding tally
   tally-with p q r v l off on same =
       count-with (t .rows) (λ s. p s && holds t s v) (λ s. q s && holds t s v) r l (rw off) (λ s _ ne. rw (same s ne)) ∙ rw on
-
--- ---- a mark that is set
-
-module _ (marks : List ℕ) (r : ℕ) (mark : ℕ) where
-  pub set-inside : r < length marks → insideIn (set marks r mark) r ≡ eqb mark 1
-  unfolding insideIn
-  set-inside l = rw (getD-set-same marks r mark 0 l)
-
-  pub set-elsewhere : (s : ℕ) → s ≢ r → insideIn (set marks r mark) s ≡ insideIn marks s
-  unfolding insideIn
-  set-elsewhere s ne = rw (getD-set-other marks r s mark 0 ne)

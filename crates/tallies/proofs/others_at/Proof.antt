@@ -20,7 +20,7 @@ from-u32-requires : tie.Need-from-u32-requires
 from-u32-requires c κs = search needs
 
 returns : tie.Need-returns
-returns c = others-add (c .before .before .before .before .before .before .pre .0 .1) (c .before .before .before .tallies-at .ensures) _ (c .before .from-u32 .ensures) (c .if1 .taken)
+returns c = λ marks a. others-add a (c .before .before .before .tallies-at .ensures) (c .before .before .before .before .before .before .pre .1) (c .before .from-u32 .ensures) (c .if1 .taken)
 
 add-from-u32-2 : tie.Need-add-from-u32-2
 add-from-u32-2 c = let start = c .before .before .before .before .before .before in omega (arith, c .before .before .before .tallies-at .ensures, area-long (start .pre .0 .1), start .pre .1)
@@ -38,10 +38,10 @@ from-u32-requires-2 : tie.Need-from-u32-requires-2
 from-u32-requires-2 c κs = search needs
 
 sub-result : tie.Need-sub-result
-sub-result c = let start = c .before .before .before .before .before .before .before .before in others-fit (start .pre .0 .1) (c .before .before .before .before .before .tallies-at .ensures) _ (c .before .before .before .from-u32 .ensures) (start .pre .1) (c .from-u322 .ensures)
+sub-result c = let start = c .before .before .before .before .before .before .before .before in others-fit (start .pre .0 .1) (c .before .before .before .before .before .tallies-at .ensures) (start .pre .1) (c .before .before .before .from-u32 .ensures) (c .from-u322 .ensures)
 
 returns-2 : tie.Need-returns-2
-returns-2 c = let start = c .before .before .before .before .before .before .before .before in others-remove (start .pre .0 .1) (c .before .before .before .before .before .tallies-at .ensures) _ (c .before .before .before .from-u32 .ensures) (start .pre .1) (c .from-u322 .ensures) (c .before .before .if1 .left)
+returns-2 c = let start = c .before .before .before .before .before .before .before .before in λ marks a. others-remove a (c .before .before .before .before .before .tallies-at .ensures) (start .pre .1) (c .before .before .before .from-u32 .ensures) (c .from-u322 .ensures) (c .before .before .if1 .left)
 
 pub others-at-spec : {M : Type 1} → statement M
 others-at-spec =

@@ -1,7 +1,6 @@
 use mathlib.Core.Path.{sym, _∙_}
 use native.Mathlib.Omega.{arith}
 use Rattle.tallies.specs.Area.{area-ground, area-closed}
-use Rattle.growth.specs.Free.{none-free, none-free-all}
 use Rattle.growth.specs.Around.{area-surrounds, counted-one}
 use Rattle.growth.specs.Cases.{case-none, case-one, case-two, case-more}
 use Rattle.growth.proofs.cases.local_test.Statement.{statement}
@@ -22,12 +21,12 @@ edge-free-requires c κs = let start = c .before .before .before .before .before
 returns : tie.Need-returns
 returns c =
     let start = c .before .before .before .before .before .before .before in
-    c .unless-free .ensures ∙ case-none (area-ground (start .pre .0)) _ _ _ (start .pre .1) (c .before .before .before .left-out .ensures) (c .before .before .match .keys1) (c .before .vertices-free .ensures ∙ none-free-all (start .pre .0) _ _ (start .pre .1))
+    c .unless-free .ensures ∙ case-none (area-ground (start .pre .0)) _ _ _ (start .pre .1) (c .before .before .before .left-out .ensures) (c .before .before .match .keys1) (c .before .vertices-free .ensures _ (start .pre .0))
 
 returns-2 : tie.Need-returns-2
 returns-2 c =
     let start = c .before .before .before .before .before .before .before in
-    c .unless-free2 .ensures ∙ case-one (area-ground (start .pre .0)) _ _ _ (start .pre .1) (c .before .before .before .left-out .ensures) (c .before .before .match .keys2) (c .before .vertex-free .ensures ∙ none-free (start .pre .0) _ _ (start .pre .1) _ (counted-one (c .before .before .before .left-out .ensures) (c .before .before .match .keys2) .0))
+    c .unless-free2 .ensures ∙ case-one (area-ground (start .pre .0)) _ _ _ (start .pre .1) (c .before .before .before .left-out .ensures) (c .before .before .match .keys2) (c .before .vertex-free .ensures _ (start .pre .0))
 
 returns-3 : tie.Need-returns-3
 returns-3 c =
