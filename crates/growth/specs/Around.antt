@@ -65,6 +65,6 @@ module _ {p : ℕ → Bool} where
       (l, alone (pick n p) (pick_length n p ∙ sym c.counted ∙ one) (in_pick n p last l t))
     where
       alone : (xs : List ℕ) → length xs ≡ 1 → Among last xs → xs ≡ last ∷ []
-      alone [] e m = absurd (Memᴰ.not_nil m)
+      alone [] e m = absurd (Memᴰ.not-nil m)
       alone (x ∷ []) e m = let same : last ≡ x = Memᴰ.eq_of_singleton m in cc
       alone (x ∷ y ∷ xs) e m = absurd (omega arith)

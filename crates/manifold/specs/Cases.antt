@@ -2,7 +2,7 @@
 -- its triangles on the skin, this is Lhuillier's Theorem 4.
 use Rattle.std.specs.Prelude.{◌≡◌, refl, ◌⊎◌, ◌↔◌, ◌≢◌, Bool, true, ℕ, ◌<◌}
 use Rattle.std.proofs.Common.{sym, ap, ◌∙◌, subst, inl, inr, ⊎_elim, arith, lit<}
-use Rattle.std.proofs.Math.Logic.{Ne·symm}
+use Rattle.std.proofs.Math.Logic.{Ne-symm}
 use Rattle.rules.specs.Table.{Table, holds}
 use Rattle.rules.specs.Skin.{on_skin, far_edge}
 use Rattle.rules.specs.Laws.Truth.{true_or_false, not_both, same_or_not}
@@ -41,10 +41,10 @@ four_from i j li lj ij =
         k_below = o.one_below;
         l_below = o.two_below;
         ij = ij;
-        ik = Ne·symm o.one_is.0;
-        il = Ne·symm o.two_is.0;
-        jk = Ne·symm o.one_is.1;
-        jl = Ne·symm o.two_is.1;
+        ik = Ne-symm o.one_is.0;
+        il = Ne-symm o.two_is.0;
+        jk = Ne-symm o.one_is.1;
+        jl = Ne-symm o.two_is.1;
         kl = o.differ;
         only = λ m lm. ⊎_elim inl (λ mi. ⊎_elim (λ e. inr (inl e)) (λ mj. inr (inr (o.only m lm (mi, mj)))) (same_or_not m j)) (same_or_not m i);
       },
@@ -67,7 +67,7 @@ swap_jk o = record {
   ij = o.ik;
   ik = o.ij;
   il = o.il;
-  jk = Ne·symm o.jk;
+  jk = Ne-symm o.jk;
   jl = o.kl;
   kl = o.jl;
   only = λ m lm. ⊎_elim inl (⊎_elim (λ e. inr (inr (inl e))) (⊎_elim (λ e. inr (inl e)) (λ e. inr (inr (inr e))))) (o.only m lm);
@@ -79,7 +79,7 @@ swap_ij o = record {
   j_below = o.i_below;
   k_below = o.k_below;
   l_below = o.l_below;
-  ij = Ne·symm o.ij;
+  ij = Ne-symm o.ij;
   ik = o.jk;
   il = o.jl;
   jk = o.ik;
@@ -99,7 +99,7 @@ swap_kl o = record {
   il = o.ik;
   jk = o.jl;
   jl = o.jk;
-  kl = Ne·symm o.kl;
+  kl = Ne-symm o.kl;
   only = λ m lm. ⊎_elim inl (⊎_elim (λ e. inr (inl e)) (⊎_elim (λ e. inr (inr (inr e))) (λ e. inr (inr (inl e))))) (o.only m lm);
 }
 
@@ -133,12 +133,12 @@ module _ (t : Table) (four : t.corners ≡ 4) {id_count : ℕ} (closed : Closed 
     -- its three far edges in the row
     vertex_corners : Corners (λ a. Holds t r a × (a ≢ t.id r i)) (t.id r j) (t.id r k) (t.id r l)
     vertex_corners = record {
-      first = ((j, corner o.j_below, refl), differ o.j_below o.i_below (Ne·symm o.ij));
-      second = ((k, corner o.k_below, refl), differ o.k_below o.i_below (Ne·symm o.ik));
-      third = ((l, corner o.l_below, refl), differ o.l_below o.i_below (Ne·symm o.il));
+      first = ((j, corner o.j_below, refl), differ o.j_below o.i_below (Ne-symm o.ij));
+      second = ((k, corner o.k_below, refl), differ o.k_below o.i_below (Ne-symm o.ik));
+      third = ((l, corner o.l_below, refl), differ o.l_below o.i_below (Ne-symm o.il));
       xy = differ o.j_below o.k_below o.jk;
       yz = differ o.k_below o.l_below o.kl;
-      zx = differ o.l_below o.j_below (Ne·symm o.jl);
+      zx = differ o.l_below o.j_below (Ne-symm o.jl);
       only = λ a ((m, lm, e), ne).
           ⊎_elim (λ (q : m ≡ i). absurd (ne (sym e ∙ ap (t.id r) q)))
           (⊎_elim (λ (q : m ≡ j). inl (sym e ∙ ap (t.id r) q)) (⊎_elim (λ (q : m ≡ k). inr (inl (sym e ∙ ap (t.id r) q))) (λ (q : m ≡ l). inr (inr (sym e ∙ ap (t.id r) q)))))

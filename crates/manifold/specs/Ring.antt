@@ -7,7 +7,7 @@
 --     none      S' is a ring exactly if S is empty
 use Rattle.std.specs.Prelude.{◌≡◌, refl, ◌⊎◌, ◌↔◌, ◌≢◌, ℕ, ◌<◌}
 use Rattle.std.proofs.Common.{sym, ◌∙◌, subst, inl, inr, ⊎_elim}
-use Rattle.std.proofs.Math.Logic.{Ne·symm}
+use Rattle.std.proofs.Math.Logic.{Ne-symm}
 use Rattle.rules.specs.Laws.Truth.{same_or_not}
 use Rattle.rules.specs.Laws.Joined.{Chain, stay, step, chain_join, chain_back, chain_map}
 use Rattle.rules.specs.Reading.Ring as Reading
@@ -85,9 +85,9 @@ swap c = record {
   first = c.second;
   second = c.first;
   third = c.third;
-  xy = Ne·symm c.xy;
-  yz = Ne·symm c.zx;
-  zx = Ne·symm c.yz;
+  xy = Ne-symm c.xy;
+  yz = Ne-symm c.zx;
+  zx = Ne-symm c.yz;
   only = λ a h. ⊎_elim (λ e. inr (inl e)) (⊎_elim inl (λ e. inr (inr e))) (c.only a h);
 }
 
@@ -198,7 +198,7 @@ module _ {T : ℕ → Type 0} {x y z : ℕ} (c : Corners T x y z) where
       one = o.other;
       two = z;
       one_is = f.elsewhere x o.other (λ _. outside) o.is;
-      two_is = flips_second (f.between x z c.first c.third (Ne·symm c.zx)) nxz;
+      two_is = flips_second (f.between x z c.first c.third (Ne-symm c.zx)) nxz;
       differ = λ (e : o.other ≡ z). outside (subst T (sym e) c.third);
       only = λ k s'.
           ⊎_elim (λ tk. inr (corner k tk s'))
@@ -261,7 +261,7 @@ module _ {T : ℕ → Type 0} {x y z : ℕ} (c : Corners T x y z) {S S' : Edges}
       z_end = (x, szx')
 
       of_y : (b : ℕ) → S y b → (b ≡ x) ⊎ (b ≡ z)
-      of_y b s = two_known (ring.two y x (f.back x y sxy)) x z (f.back x y sxy) syz (Ne·symm c.zx) b s
+      of_y b s = two_known (ring.two y x (f.back x y sxy)) x z (f.back x y sxy) syz (Ne-symm c.zx) b s
 
       no_y : (b : ℕ) → S' y b → ⊥
       no_y b s' =
@@ -271,7 +271,7 @@ module _ {T : ℕ → Type 0} {x y z : ℕ} (c : Corners T x y z) {S S' : Edges}
         where
           corner : (b : ℕ) → T b → S' y b → ⊥
           corner =
-              by_corner c (λ b. S' y b → ⊥) (flips_first (f.between y x c.second c.first (Ne·symm c.xy)) (f.back x y sxy))
+              by_corner c (λ b. S' y b → ⊥) (flips_first (f.between y x c.second c.first (Ne-symm c.xy)) (f.back x y sxy))
               (λ s'. f.apart' y y s' refl) (flips_first (f.between y z c.second c.third c.yz) syz)
 
       two' : (a b : ℕ) → S' a b → Two (S' a)
@@ -436,11 +436,11 @@ module _ {T : ℕ → Type 0} {x y z : ℕ} (c : Corners T x y z) {S S' : Edges}
       two' : (a b : ℕ) → S' a b → Two (S' a)
       two' a b s' =
           by_corner c (λ u. Two (S' u))
-          (to x y z c.first c.second c.third c.xy (Ne·symm c.zx) c.yz
+          (to x y z c.first c.second c.third c.xy (Ne-symm c.zx) c.yz
           (by_corner c (λ k. x ≢ k → (k ≡ y) ⊎ (k ≡ z)) (λ n. absurd (n refl)) (λ _. inl refl) (λ _. inr refl)))
-          (to y z x c.second c.third c.first c.yz (Ne·symm c.xy) c.zx
+          (to y z x c.second c.third c.first c.yz (Ne-symm c.xy) c.zx
           (by_corner c (λ k. y ≢ k → (k ≡ z) ⊎ (k ≡ x)) (λ _. inr refl) (λ n. absurd (n refl)) (λ _. inl refl)))
-          (to z x y c.third c.first c.second c.zx (Ne·symm c.yz) c.xy
+          (to z x y c.third c.first c.second c.zx (Ne-symm c.yz) c.xy
           (by_corner c (λ k. z ≢ k → (k ≡ x) ⊎ (k ≡ y)) (λ _. inl refl) (λ _. inr refl) (λ n. absurd (n refl)))) a (corner a b s')
 
       joined' : (a d : ℕ) → End S' a → End S' d → Chain (End S') S' a d

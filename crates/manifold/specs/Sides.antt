@@ -2,7 +2,7 @@
 -- between those two rows is on the skin. The vertex rule gives the walk about a vertex, and the edge rule that about an edge.
 use Rattle.std.specs.Prelude.{◌≡◌, refl, ◌≢◌, Bool, ℕ, ◌≤◌, ◌<◌}
 use Rattle.std.proofs.Common.{sym, ap, ◌∙◌, subst, ⊎_elim, arith, lit≤}
-use Rattle.std.proofs.Math.Logic.{Ne·symm}
+use Rattle.std.proofs.Math.Logic.{Ne-symm}
 use Rattle.rules.specs.Table.{Table}
 use Rattle.rules.specs.Laws.Truth.{same_or_not}
 use Rattle.rules.specs.Laws.Count.{ExactlyTwo}
@@ -58,7 +58,7 @@ module _ (t : Table) where
       same : c ≡ i → (d : ℕ) × (d < t.corners) × (d ≢ i) × Side t x d y
       same e =
           let all : (d : ℕ) → Side t x d y = any_side s (subst (λ (k : ℕ). Holds t y (t.id x k)) (sym e) h) in
-          ⊎_elim (λ (z : i ≡ 0). (1, more, λ (q : 1 ≡ i). omega arith, all 1)) (λ z. (0, omega arith, Ne·symm z, all 0)) (same_or_not i 0)
+          ⊎_elim (λ (z : i ≡ 0). (1, more, λ (q : 1 ≡ i). omega arith, all 1)) (λ z. (0, omega arith, Ne-symm z, all 0)) (same_or_not i 0)
 
 -- ---- the triangle between two neighbours
 
@@ -89,7 +89,7 @@ module _ (t : Table) (four : t.corners ≡ 4) where
       -- a left-out corner that is not on the edge leaves a third
       left : (d : ℕ) → d < 4 → (d ≢ i) × (d ≢ j) → Side t x d y → (b : ℕ) × Different p q b × On t p q b x × On t p q b y
       left d ld (di, dj) side =
-          let m = fourth_corner i j d (below_four li) (below_four lj) ld ij (Ne·symm di) (Ne·symm dj) in
+          let m = fourth_corner i j d (below_four li) (below_four lj) ld ij (Ne-symm di) (Ne-symm dj) in
           let lm : m.one < t.corners = below_corners m.below in (
             t.id x m.one,
             (
@@ -105,7 +105,7 @@ module _ (t : Table) (four : t.corners ≡ 4) where
   shared_at_vertex : {x y v : ℕ} → Rising t x → Neighbours t x y → Holds t x v → Holds t y v → (a : ℕ) × (b : ℕ) × Different v a b × On t v a b x × On t v a b y
   shared_at_vertex {x} {y} {v} up n (i, li, ei) yv =
       let (c, l, ci, s) = facet_with t (subst (λ (k : ℕ). 2 ≤ k) (sym four) (lit≤ tt)) n (subst (Holds t y) (sym ei) yv) in
-      let o = two_others i c (below_four li) (below_four l) (Ne·symm ci) in
+      let o = two_others i c (below_four li) (below_four l) (Ne-symm ci) in
       let l₁ : o.one < t.corners = below_corners o.one_below in
       let l₂ : o.two < t.corners = below_corners o.two_below in (
         t.id x o.one,

@@ -192,7 +192,7 @@ module _ (t : Table) where
   pub taken_known : (marks : List ℕ) (ps : List Proposal) → answers_to t marks ps ≡ replicate (length ps) 0
       → (p : Proposal) → Among p ps → (p.row < t.rows) × (p.kind ≤ 2)
   unfolding answers_to
-  taken_known marks [] e p m = absurd (Memᴰ.not_nil m)
+  taken_known marks [] e p m = absurd (Memᴰ.not-nil m)
   taken_known marks (q ∷ ps) e p m =
       let here = (passes_earlier t marks q).0 (taken_earlier t marks q (ap (λ (xs : List ℕ). get_or xs 0 0) e)) in
       ⊎_elim (λ (same : p ≡ q). rw same (here.row_below, ⊎_elim (λ k. omega arith) (λ k. omega arith) here.kind_known))

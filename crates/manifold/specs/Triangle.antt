@@ -1,7 +1,7 @@
 -- Skin triangles by their three ids, in any order, and what flipping a row does to them.
 use Rattle.std.specs.Prelude.{◌≡◌, refl, ◌↔◌, ◌≢◌, Bool, true, false, ℕ, ◌<◌, ltb}
 use Rattle.std.proofs.Common.{sym, ◌∙◌, subst, inl, inr, ⊎_elim, ltb-true, lt-ltb}
-use Rattle.std.proofs.Math.Logic.{Ne·symm}
+use Rattle.std.proofs.Math.Logic.{Ne-symm}
 use Rattle.rules.specs.Table.{Table}
 use Rattle.rules.specs.Skin.{far_edge, clean, skin_vertex}
 use Rattle.rules.specs.Laws.Truth.{true_or_false, not_both}
@@ -29,10 +29,10 @@ module _ (t : Table) where
 
   -- the ids may be named in any order
   skin_back : (inside : ℕ → Bool) (v a b : ℕ) → Skin inside v a b → Skin inside v b a
-  skin_back inside v a b ((va, vb, ab), s) = ((vb, va, Ne·symm ab), split_map (λ z (h, (k, m)). (h, (m, k))) s)
+  skin_back inside v a b ((va, vb, ab), s) = ((vb, va, Ne-symm ab), split_map (λ z (h, (k, m)). (h, (m, k))) s)
 
   pub skin_swap : (inside : ℕ → Bool) (v a b : ℕ) → Skin inside v a b → Skin inside a v b
-  skin_swap inside v a b ((va, vb, ab), s) = ((Ne·symm va, ab, vb), split_map (λ z (h, (k, m)). (k, (h, m))) s)
+  skin_swap inside v a b ((va, vb, ab), s) = ((Ne-symm va, ab, vb), split_map (λ z (h, (k, m)). (k, (h, m))) s)
 
   module _ (four : t.corners ≡ 4) {id_count : ℕ} (closed : Closed t id_count) where
     on_side : {r c v a b : ℕ} → TriangleIds t r c v a b → Different v a b → c < 4 → (z : ℕ) → Side t r c z ↔ On v a b z
@@ -69,7 +69,7 @@ module _ (t : Table) where
         apart = λ a b ((_, _, ab), _). ab;
         apart' = λ a b ((_, _, ab), _). ab;
         between = λ a b (ha, av) (hb, bv) ab.
-            let d : Different v a b = (Ne·symm av, Ne·symm bv, ab) in
+            let d : Different v a b = (Ne-symm av, Ne-symm bv, ab) in
             ⊎_elim (λ (s, n). inl ((d, s), λ (_, s'). n s')) (λ (s', n). inr ((d, s'), λ (_, s). n s))
             (split_flips t.rows (On v a b) r l (h, (ha, hb)) (the_other_row d r l (h, (ha, hb))) flip);
         elsewhere = λ a b off (d, s). (d, split_kept t.rows (On v a b) flip (here a b off d) s);
@@ -77,7 +77,7 @@ module _ (t : Table) where
       }
         where
           here : (a b : ℕ) → (Holds t r a × (a ≢ v) → Holds t r b × (b ≢ v) → ⊥) → Different v a b → On v a b r → ⊥
-          here a b off (va, vb, _) (_, (ha, hb)) = off (ha, Ne·symm va) (hb, Ne·symm vb)
+          here a b off (va, vb, _) (_, (ha, hb)) = off (ha, Ne-symm va) (hb, Ne-symm vb)
 
     -- ---- the definitions of `rules`
 

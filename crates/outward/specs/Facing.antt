@@ -2,7 +2,7 @@
 use Rattle.std.specs.Prelude.{◌≡◌, refl, ◌≢◌, Bool, true, false, not, cond, ℕ, ◌<◌, get_or}
 use Rattle.std.proofs.Common.{sym, ap₂, ◌∙◌, arith}
 use Rattle.std.proofs.Math.Path.{ap}
-use Rattle.std.proofs.Math.Logic.{Ne·symm}
+use Rattle.std.proofs.Math.Logic.{Ne-symm}
 use Rattle.std.proofs.Math.Bool.{xor}
 use Rattle.std.proofs.Math.Option.{some}
 use mathlib.Core.List.{List, [], ◌∷◌, map}
@@ -39,7 +39,7 @@ all_differ {a = a} {b = b} {e = e} f = let (ab, ae) = f.lowest_first in (λ (q :
 
 -- a row that holds a, b and e, by its fourth corner
 corner_ids : {t : Table} {s a b e d : ℕ} → Different a b e → HoldsAll t s a b e → FourthCorner t s a b e d → FourIds t s a b e d
-corner_ids n h (hd, da, db, de) = record { three = n; other = (n.0, Ne·symm da, Ne·symm db); apart = Ne·symm de; held = h; fourth = hd }
+corner_ids n h (hd, da, db, de) = record { three = n; other = (n.0, Ne-symm da, Ne-symm db); apart = Ne-symm de; held = h; fourth = hd }
 
 module _ (t : Table) (four : t.corners ≡ 4) {id_count : ℕ} (paired : Paired t id_count) (at : ℕ → Point) (solid : (r : ℕ) → r < t.rows → flat t at r ≡ false)
     (marks : List ℕ) (alike : OuterAlike t marks) where
@@ -91,7 +91,7 @@ module _ (t : Table) (four : t.corners ≡ 4) {id_count : ℕ} (paired : Paired 
       by_way false way = record {
         ids = ids_last_exchanged ids;
         lowest_first = (lt_trans pq qu, pq);
-        others_differ = Ne·symm differ.2;
+        others_differ = Ne-symm differ.2;
         behind = λ fin. exchanged_below at p q u (t.id r c) ∙ solid_above _ (own_solid fin) ∙ ap not (sym (finite_way fin) ∙ way);
         in_front = λ out. exchanged_above at p q u (far_id t r c) ∙ not-false _ (sym (solid_above _ (far_solid out)) ∙ sym (outer_way out) ∙ way);
       }

@@ -24,7 +24,7 @@ use Rattle.rules.specs.Reading.Outward.{AsRising, listed_id, either_way}
 -- ---- numbers in a list
 
 at_among : (xs : List ℕ) (u : ℕ) → Among u xs → (k : ℕ) × (k < length xs) × (get_or xs k 0 ≡ u)
-at_among [] u m = absurd (Memᴰ.not_nil m)
+at_among [] u m = absurd (Memᴰ.not-nil m)
 at_among (x ∷ xs) u m = ⊎_elim (λ (e : u ≡ x). (0, zero-lt-suc (length xs), sym e)) (λ n. let (k, l, e) = at_among xs u n in (suc k, omega arith, e)) (Memᴰ.cases_cons m)
 
 distinct_at : (xs : List ℕ) → Distinct xs → (j k : ℕ) → j < length xs → k < length xs → get_or xs j 0 ≡ get_or xs k 0 → j ≡ k

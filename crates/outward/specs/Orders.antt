@@ -19,7 +19,7 @@ member_of_three [] e u m = absurd (omega arith)
 member_of_three (a ∷ []) e u m = absurd (omega arith)
 member_of_three (a ∷ b ∷ []) e u m = absurd (omega arith)
 member_of_three (a ∷ b ∷ c ∷ []) e u m =
-    ⊎_elim inl (λ n. inr (⊎_elim inl (λ k. inr (⊎_elim (λ (q : u ≡ c). q) (λ z. absurd (Memᴰ.not_nil z)) (Memᴰ.cases_cons k))) (Memᴰ.cases_cons n)))
+    ⊎_elim inl (λ n. inr (⊎_elim inl (λ k. inr (⊎_elim (λ (q : u ≡ c). q) (λ z. absurd (Memᴰ.not-nil z)) (Memᴰ.cases_cons k))) (Memᴰ.cases_cons n)))
     (Memᴰ.cases_cons m)
 member_of_three (a ∷ b ∷ c ∷ d ∷ xs) e u m = absurd (omega arith)
 

@@ -1,6 +1,6 @@
 -- What is proved of the skin listed outward. `as_rising` holds of any list, in whatever order is asked for.
 use Rattle.std.specs.Prelude.{◌≡◌, true, false, List, ℕ, ◌<◌, length}
-use Rattle.std.proofs.Math.Logic.{Ne·symm}
+use Rattle.std.proofs.Math.Logic.{Ne-symm}
 use Rattle.std.proofs.Math.Option.{some}
 use Rattle.rules.specs.Below.{count}
 use Rattle.rules.specs.Table.{Table}
@@ -31,7 +31,7 @@ swapped s =
       row_below = s.row_below;
       corner_below = s.corner_below;
       on_skin_lem = s.on_skin_lem;
-      different = (Ne·symm xy, yw, xw);
+      different = (Ne-symm xy, yw, xw);
       ids = ids_first_exchanged s.ids;
     }
 

@@ -2,7 +2,7 @@
 use Rattle.std.specs.Prelude.{◌≡◌, ◌⊎◌, Bool, List, ℕ, ◌<◌, length, get_or}
 use Rattle.std.proofs.Math.Path.{refl, sym, ap}
 use Rattle.std.proofs.Common.{◌∙◌, subst, subst₂, inl, inr}
-use Rattle.std.proofs.Math.Logic.{⊎_elim, Ne·symm}
+use Rattle.std.proofs.Math.Logic.{⊎_elim, Ne-symm}
 use Rattle.std.proofs.Math.Bool.{true, false, not, xor}
 use Rattle.std.proofs.Math.Option.{some}
 use borrow.Author.Tests.{not-true}
@@ -65,7 +65,7 @@ four_next i =
     let (ab, ae, be) = i.three in
     let (_, av, bv) = i.other in
     let (ha, hb, he) = i.held in
-    record { three = (be, Ne·symm ab, Ne·symm ae); other = (be, bv, i.apart); apart = av; held = (hb, he, ha); fourth = i.fourth }
+    record { three = (be, Ne-symm ab, Ne-symm ae); other = (be, bv, i.apart); apart = av; held = (hb, he, ha); fourth = i.fourth }
 
 not_opposite : (b : Bool) → b ≡ not b → ⊥
 not_opposite true e = not_both refl e

@@ -1,7 +1,7 @@
 -- A row by its four ids x, y, w and v, and the two rows at a triangle.
 use Rattle.std.specs.Prelude.{◌≡◌, ◌↔◌, ◌≢◌, Bool, true, not, ◌&&◌, ℕ, ◌<◌, eqb}
 use Rattle.std.proofs.Common.{sym, ◌∙◌, subst, inl, inr, ⊎_elim}
-use Rattle.std.proofs.Math.Logic.{Ne·symm}
+use Rattle.std.proofs.Math.Logic.{Ne-symm}
 use Rattle.rules.specs.Table.{Table, holds, across}
 use Rattle.rules.specs.Skin.{different, holds_three}
 use Rattle.rules.specs.Outward.{far_id}
@@ -64,12 +64,12 @@ first_exchanged i =
     let (xy, xw, yw) = i.three in
     let (_, xv, yv) = i.other in
     let (hx, hy, hw) = i.held in
-    record { three = (Ne·symm xy, yw, xw); other = (Ne·symm xy, yv, xv); apart = i.apart; held = (hy, hx, hw); fourth = i.fourth }
+    record { three = (Ne-symm xy, yw, xw); other = (Ne-symm xy, yv, xv); apart = i.apart; held = (hy, hx, hw); fourth = i.fourth }
 
 pub last_exchanged : {t : Table} {s x y w v : ℕ} → FourIds t s x y w v → FourIds t s x y v w
 last_exchanged i =
     let (hx, hy, hw) = i.held in
-    record { three = i.other; other = i.three; apart = Ne·symm i.apart; held = (hx, hy, i.fourth); fourth = hw }
+    record { three = i.other; other = i.three; apart = Ne-symm i.apart; held = (hx, hy, i.fourth); fourth = hw }
 
 unfoldable pub four_ids : Table → ℕ → ℕ → ℕ → ℕ → ℕ → Bool
 four_ids t s x y w v = (different x y w && (different x y v && not (eqb w v))) && (holds_three t x y w s && holds t s v)

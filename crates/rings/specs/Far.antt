@@ -2,7 +2,7 @@
 -- in the inside row that holds its triangle.
 use Rattle.std.specs.Prelude.{◌≡◌, refl, ◌⊎◌, ◌≢◌, Bool, not, ◌&&◌, ◌||◌, cond, ℕ, ◌+◌, ◌*◌, ◌/◌, ◌%◌, ◌≤◌, ◌<◌, eqb, ltb, length}
 use Rattle.std.proofs.Common.{sym, ap, ◌∙◌, inl, inr, ⊎_elim, arith, lit<, eqb-true, eq-eqb, ne_eqb, ltb-true}
-use Rattle.std.proofs.Math.Logic.{Ne·symm}
+use Rattle.std.proofs.Math.Logic.{Ne-symm}
 use Rattle.std.proofs.Math.Bool.{true}
 use mathlib.Core.List.{List, flatten}
 use Rattle.std.proofs.Math.Nat.{mod-lt, div-add-mod}
@@ -106,7 +106,7 @@ beside {f} {v} {x} {y} s ix iy a b =
     back (inl (p, q)) = rw (p, q) (and_both (and_both (face_in f x ix) (face_in f y iy)) ((different_reads v x y).1 s.ends_differ))
     back (inr (p, q)) =
         let (vx, vy, xy) = s.ends_differ in
-        rw (p, q) (and_both (and_both (face_in f y iy) (face_in f x ix)) ((different_reads v y x).1 (vy, vx, Ne·symm xy)))
+        rw (p, q) (and_both (and_both (face_in f y iy) (face_in f x ix)) ((different_reads v y x).1 (vy, vx, Ne-symm xy)))
 
 -- ---- the corners of a triangle, by one computed test each
 
@@ -277,7 +277,7 @@ module _ (t : Table) (four : t.corners ≡ 4) (inside : ℕ → Bool) (v : ℕ) 
 
         corner : p % 4 ≡ q % 4
         corner =
-            left.only (p % 4) (mod-lt p (lit< tt)) (Ne·symm x.ids.first_stays, Ne·symm x.ids.second_stays, Ne·symm x.ids.third_stays)
+            left.only (p % 4) (mod-lt p (lit< tt)) (Ne-symm x.ids.first_stays, Ne-symm x.ids.second_stays, Ne-symm x.ids.third_stays)
             ∙ sym (left.only (q % 4) (mod-lt q (lit< tt)) (
               stays x.ids.first y.ids.first x.ids.first_below y.ids.first_below x.ids.first_is y.ids.first_is y.ids.first_stays,
               stays x.ids.second y.ids.second x.ids.second_below y.ids.second_below x.ids.second_is y.ids.second_is y.ids.second_stays,

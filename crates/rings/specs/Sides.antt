@@ -3,7 +3,7 @@
 use Rattle.std.specs.Prelude.{◌≡◌, refl, ◌⊎◌, ◌≢◌, Bool, true, false, not, ℕ, ◌<◌}
 use Rattle.std.proofs.Math.Path.{sym, ap}
 use Rattle.std.proofs.Common.{◌∙◌, subst}
-use Rattle.std.proofs.Math.Logic.{inl, inr, ⊎_elim, Ne·symm}
+use Rattle.std.proofs.Math.Logic.{inl, inr, ⊎_elim, Ne-symm}
 use Rattle.rules.specs.Table.{Table, across}
 use Rattle.rules.specs.Skin.{far_edge}
 use Rattle.rules.specs.Laws.Truth.{not_both, is_false, same_or_not}
@@ -46,11 +46,11 @@ reordered {x = x} {y = y} differ hold p = record {
 
 -- the same triangle, seen from its other end
 pub seen_back : {t : Table} {inside : ℕ → Bool} {v w u x y : ℕ} → Between t inside v w u x y → Between t inside v u w x y
-seen_back p = let (vw, vu, wu) = p.differ in reordered (vu, vw, Ne·symm wu) (λ z (hv, hw, hu). (hv, hu, hw)) p
+seen_back p = let (vw, vu, wu) = p.differ in reordered (vu, vw, Ne-symm wu) (λ z (hv, hw, hu). (hv, hu, hw)) p
 
 -- and from w in the place of v
 swapped : {t : Table} {inside : ℕ → Bool} {v w u x y : ℕ} → Between t inside v w u x y → Between t inside w v u x y
-swapped p = let (vw, vu, wu) = p.differ in reordered (Ne·symm vw, wu, vu) (λ z (hv, hw, hu). (hw, hv, hu)) p
+swapped p = let (vw, vu, wu) = p.differ in reordered (Ne-symm vw, wu, vu) (λ z (hv, hw, hu). (hw, hv, hu)) p
 
 sides_differ : (inside : ℕ → Bool) {x y : ℕ} → inside x ≡ true → inside y ≡ false → x ≢ y
 sides_differ inside i o e = not_both i (ap inside e ∙ o)
@@ -131,7 +131,7 @@ module _ {t : Table} {id_count : ℕ} (paired : Paired t id_count) (four : t.cor
                   λ (f : m ≡ ids.third). ne (sym ids.third_is ∙ ap (t.id x) (sym f) ∙ is),
                 )
                 in
-                let here : k ≡ left.one = e ∙ left.only corner.0 corner.1 (Ne·symm ids.first_stays, Ne·symm ids.second_stays, Ne·symm ids.third_stays) in
+                let here : k ≡ left.one = e ∙ left.only corner.0 corner.1 (Ne-symm ids.first_stays, Ne-symm ids.second_stays, Ne-symm ids.third_stays) in
                 subst (Holds t y) (sym is ∙ ap (t.id x) (there ∙ sym here)) q.y_holds.2
 
   -- each far edge has its rows
@@ -171,7 +171,7 @@ module _ {t : Table} {id_count : ℕ} (paired : Paired t id_count) (four : t.cor
         let (kv, kw) = (both_reads t v w y).0 at_y.1 in
         let m = subst (λ n. d < n) (sym four) l in
         record {
-          differ = (edge, Ne·symm nv, Ne·symm nw);
+          differ = (edge, Ne-symm nv, Ne-symm nw);
           x_below = near.0.0;
           y_below = at_y.0;
           x_holds = (hv, hw, (d, m, refl));

@@ -2,7 +2,7 @@
 use Rattle.std.specs.Prelude.{◌≡◌, ◌⊎◌, ◌↔◌, ◌≢◌, Bool, not, ◌&&◌, eqb}
 use Rattle.std.proofs.Math.Path.{refl}
 use Rattle.std.proofs.Common.{sym, ap, ◌∙◌, subst, inl, inr, ⊎_elim}
-use Rattle.std.proofs.Math.Logic.{Ne·symm}
+use Rattle.std.proofs.Math.Logic.{Ne-symm}
 use Rattle.std.proofs.Math.Bool.{true, false, cond}
 use Rattle.std.specs.Bool.{beq}
 use Prim.Native.Nat.{ℕ, ◌+◌, ◌≤◌, ◌<◌}
@@ -109,7 +109,7 @@ module _ {t : Table} {id_count : ℕ} (paired : Paired t id_count) (four : t.cor
       (subst (λ u. u ≢ x) same o.differs, subst (Side t x c) same o.is)
 
   near_apart : (x y : ℕ) → Near t a b x y → x ≢ y
-  near_apart x y n = Ne·symm (near_side x y n).0
+  near_apart x y n = Ne-symm (near_side x y n).0
 
   pub near_below : (x y : ℕ) → Near t a b x y → y < t.rows
   near_below x y n = (near_at x y n).0
@@ -118,7 +118,7 @@ module _ {t : Table} {id_count : ℕ} (paired : Paired t id_count) (four : t.cor
   near_back x y (at, (c, m, w, e)) =
       let at' = near_at x y (at, (c, m, w, e)) in
       let (ne, on) = near_side x y (at, (c, m, w, e)) in
-      neighbours_near y x at' at (neighbours_back t x y (paired.rising x at.0) (paired.rising y at'.0) (Ne·symm ne, (c, rw four m, on)))
+      neighbours_near y x at' at (neighbours_back t x y (paired.rising x at.0) (paired.rising y at'.0) (Ne-symm ne, (c, rw four m, on)))
 
   -- the rows across the two triangles of a row that hold the edge
   near_two : (x : ℕ) → At t a b x → ExactlyTwo t.rows (Near t a b x)

@@ -54,7 +54,7 @@ chain_map f g (step {x} {y} m n c) = step (f x m) (g x y m (chain_starts c) n) (
 
 those_in : (p : ℕ → Bool) (xs : List ℕ) (y : ℕ) → Among y (those p xs) → Among y xs × (p y ≡ true)
 unfolding those
-those_in p [] y m = absurd (Memᴰ.not_nil m)
+those_in p [] y m = absurd (Memᴰ.not-nil m)
 those_in p (x ∷ xs) y m = go (p x) refl m (λ i. those_in p xs y i)
   where
     go : (b : Bool) → p x ≡ b → Among y (cond b (x ∷ those p xs) (those p xs)) → (Among y (those p xs) → Among y xs × (p y ≡ true))
@@ -65,7 +65,7 @@ those_in p (x ∷ xs) y m = go (p x) refl m (λ i. those_in p xs y i)
 
 in_those : (p : ℕ → Bool) (xs : List ℕ) (y : ℕ) → Among y xs → p y ≡ true → Among y (those p xs)
 unfolding those
-in_those p [] y m t = absurd (Memᴰ.not_nil m)
+in_those p [] y m t = absurd (Memᴰ.not-nil m)
 in_those p (x ∷ xs) y m t = go (p x) refl (λ i. in_those p xs y i t) (Memᴰ.cases_cons m)
   where
     go : (b : Bool) → p x ≡ b → (Among y xs → Among y (those p xs)) → (y ≡ x) ⊎ Among y xs → Among y (cond b (x ∷ those p xs) (those p xs))
@@ -135,9 +135,9 @@ module _ (next : ℕ → ℕ → Bool) where
   left_apart : (turns : ℕ) (todo rest : List ℕ) → length todo + length rest ≤ turns → (w : ℕ) → Among w (unreached next turns todo rest)
       → ((u : ℕ) → Among u todo → next u w ≡ false) × ((u : ℕ) → Among u rest → next u w ≡ true → Among u (unreached next turns todo rest))
   unfolding unreached
-  left_apart zero todo [] enough w m = absurd (Memᴰ.not_nil m)
+  left_apart zero todo [] enough w m = absurd (Memᴰ.not-nil m)
   left_apart zero todo (y ∷ rest) enough w m = absurd (omega arith)
-  left_apart (suc turns) [] rest enough w m = (λ u i. absurd (Memᴰ.not_nil i), λ u i _. i)
+  left_apart (suc turns) [] rest enough w m = (λ u i. absurd (Memᴰ.not-nil i), λ u i _. i)
   left_apart (suc turns) (x ∷ todo) rest enough w m =
       let (todo_apart, rest_apart) =
       left_apart turns (todo ++ those (next x) rest) (those (λ y. not (next x y)) rest)
@@ -169,7 +169,7 @@ Picked n p k = (k < n) × (p k ≡ true)
 
 none_left_in : (xs : List ℕ) → none_left xs ≡ true → (y : ℕ) → Among y xs → ⊥
 unfolding none_left
-none_left_in [] t y m = Memᴰ.not_nil m
+none_left_in [] t y m = Memᴰ.not-nil m
 none_left_in (x ∷ xs) t y m = not_both t refl
 
 in_none_left : (xs : List ℕ) → ((y : ℕ) → Among y xs → ⊥) → none_left xs ≡ true
@@ -195,7 +195,7 @@ module _ (next : ℕ → ℕ → Bool) where
 
   connected_chain : (xs : List ℕ) → ((x y : ℕ) → Among x xs → Among y xs → next x y ≡ true → next y x ≡ true)
       → connected next xs ≡ true → (x y : ℕ) → Among x xs → Among y xs → Joins xs x y
-  connected_chain [] back t x y i j = absurd (Memᴰ.not_nil i)
+  connected_chain [] back t x y i j = absurd (Memᴰ.not-nil i)
   connected_chain (h ∷ xs) back t x y i j = chain_join (chain_back back (from_first h xs t x i)) (from_first h xs t y j)
 
   pub chain_connected : (xs : List ℕ) → Distinct xs → ((x y : ℕ) → Among x xs → Among y xs → Joins xs x y) → connected next xs ≡ true

@@ -61,7 +61,7 @@ module _ {ℓ} {A : Type ℓ} where
   -- a member of a flattened list is one of a list in it
   pub flatten_in : (x : A) (xs : List (List A)) → Among x (flatten xs) → (ys : List A) × Among ys xs × Among x ys
   unfolding flatten
-  flatten_in x [] m = absurd (Memᴰ.not_nil m)
+  flatten_in x [] m = absurd (Memᴰ.not-nil m)
   flatten_in x (y ∷ xs) m =
       ⊎_elim (λ here. (y, Memᴰ.head refl, here)) (λ later. let (ys, i, j) = flatten_in x xs later in (ys, Memᴰ.tail i, j)) (Memᴰ.append_cases y m)
 
@@ -74,7 +74,7 @@ module _ {ℓ} {A : Type ℓ} where
 
   pub gather_in : (n : ℕ) (f : ℕ → List A) (x : A) → Among x (gather n f) → (k : ℕ) × (k < n) × Among x (f k)
   unfolding gather
-  gather_in zero f x m = absurd (Memᴰ.not_nil m)
+  gather_in zero f x m = absurd (Memᴰ.not-nil m)
   gather_in (suc n) f x m =
       ⊎_elim (λ (a : Among x (gather n f)). let (k, l, i) = gather_in n f x a in (k, le_step l, i)) (λ i. (n, le_refl (suc n), i))
       (Memᴰ.append_cases (gather n f) m)
@@ -134,7 +134,7 @@ module _ {ℓ} {A : Type ℓ} where
   pub only_in : (b : Bool) (x y : A) → Among y (only b x) → (b ≡ true) × (y ≡ x)
   unfolding only
   only_in true x y m = (refl, Memᴰ.eq_of_singleton m)
-  only_in false x y m = absurd (Memᴰ.not_nil m)
+  only_in false x y m = absurd (Memᴰ.not-nil m)
 
   pub only_length : (b : Bool) (x : A) → length (only b x) ≡ bit b
   unfolding only bit
@@ -175,7 +175,7 @@ Distinct [] = Unit
 Distinct (x ∷ xs) = (Among x xs → ⊥) × Distinct xs
 
 distinct_more {ℓ} : {A : Type ℓ} (xs : List A) (k : A) → Distinct xs → (Among k xs → ⊥) → Distinct (xs ++ (k ∷ []))
-distinct_more [] k d new = (Memᴰ.not_nil, tt)
+distinct_more [] k d new = (Memᴰ.not-nil, tt)
 distinct_more (x ∷ xs) k d new = (
   λ m. ⊎_elim d.0 (λ (i : Among x (k ∷ [])). new (Memᴰ.head (sym (Memᴰ.eq_of_singleton i)))) (Memᴰ.append_cases xs m),
   distinct_more xs k d.1 (λ m. new (Memᴰ.tail m)),
@@ -218,7 +218,7 @@ exactly_map same x = record {
 
 -- a list of those that pass, each once, is as long as they are many
 listed_count : (n : ℕ) (p : ℕ → Bool) (xs : List ℕ) → Distinct xs → ((k : ℕ) → Among k xs ↔ ((k < n) × (p k ≡ true))) → length xs ≡ count n p
-listed_count n p [] d all = sym (none_count n p (λ k l. is_false (p k) (λ t. Memᴰ.not_nil ((all k).1 (l, t)))))
+listed_count n p [] d all = sym (none_count n p (λ k l. is_false (p k) (λ t. Memᴰ.not-nil ((all k).1 (l, t)))))
 listed_count n p (x ∷ xs) (new, d) all =
     let (lx, tx) = (all x).0 (Memᴰ.head refl) in
     omega (
@@ -247,7 +247,7 @@ pick_ascending zero p = tt
 pick_ascending (suc n) p = go (p n) (pick_ascending n p)
   where
     above : (xs : List ℕ) → ((x : ℕ) → Among x xs → x < n) → Ascending xs → Ascending (xs ++ n ∷ [])
-    above [] small up = (λ y m. absurd (Memᴰ.not_nil m), tt)
+    above [] small up = (λ y m. absurd (Memᴰ.not-nil m), tt)
     above (x ∷ xs) small up = (
       λ y m. ⊎_elim (up.0 y) (λ (i : Among y (n ∷ [])). rw (Memᴰ.eq_of_singleton i) (small x (Memᴰ.head refl))) (Memᴰ.append_cases xs m),
       above xs (λ z m. small z (Memᴰ.tail m)) up.1,

@@ -19,7 +19,7 @@ every p [] = true
 every p (x ∷ xs) = p x && every p xs
 
 every_among {ℓ} : {A : Type ℓ} (p : A → Bool) (xs : List A) → every p xs ≡ true → (x : A) → Among x xs → p x ≡ true
-every_among p [] t x m = absurd (Memᴰ.not_nil m)
+every_among p [] t x m = absurd (Memᴰ.not-nil m)
 every_among p (y ∷ xs) t x m =
     ⊎_elim (λ e. ap p e ∙ and_first (p y) (every p xs) t) (λ i. every_among p xs (and_second (p y) (every p xs) t) x i) (Memᴰ.cases_cons m)
 
@@ -29,7 +29,7 @@ on_face c [] = false
 on_face c (k ∷ face) = eqb c k || on_face c face
 
 on_face_lem : (c : ℕ) (face : List ℕ) → Among c face → on_face c face ≡ true
-on_face_lem c [] m = absurd (Memᴰ.not_nil m)
+on_face_lem c [] m = absurd (Memᴰ.not-nil m)
 on_face_lem c (k ∷ face) m =
     ⊎_elim (λ e. or_first (on_face c face) (eq-eqb c k e)) (λ i. or_second (eqb c k) (on_face_lem c face i)) (Memᴰ.cases_cons m)
 

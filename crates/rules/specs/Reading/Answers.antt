@@ -2,7 +2,8 @@
 use Rattle.std.specs.Prelude.{◌≡◌, refl, ◌⊎◌, ◌↔◌, ◌≢◌, true, false, ◌&&◌, ◌||◌, List, [], ◌∷◌, eqb, ltb}
 use Rattle.std.proofs.Math.Path.{sym, ap}
 use Rattle.std.proofs.Common.{◌∙◌, inr, zero-lt-suc, arith}
-use Rattle.std.proofs.Math.Logic.{inl, ⊎_elim, Iff·symm, Iff·trans, Ne·symm}
+use Rattle.std.proofs.Math.Logic.Iff
+use Rattle.std.proofs.Math.Logic.{inl, ⊎_elim, Ne-symm}
 use Rattle.std.proofs.Math.Bool.{Bool, not}
 use Rattle.std.proofs.Math.Option.{none}
 use mathlib.Core.List.Memᴰ
@@ -51,7 +52,7 @@ unfolding triangles_on_skin
 triangles_read t marks r f =
     let skin = skin_reads t (inside_in marks) (inside_reads marks) r in
     let (forth, back) = count_exactly t.corners (on_skin t (inside_in marks) r) f in
-    (λ e. exactly_map skin (forth e), λ x. back (exactly_map (λ c. Iff·symm (skin c)) x))
+    (λ e. exactly_map skin (forth e), λ x. back (exactly_map (λ c. Iff.symm (skin c)) x))
 
 -- `Skin c`: the triangle of row r that leaves out corner c is on the skin
 module _ (t : Table) (Skin Other : ℕ → Type 0) (r : ℕ) where
@@ -94,7 +95,7 @@ module _ (t : Table) (Skin Other : ℕ → Type 0) (r : ℕ) where
           let (p, q) = (in_neither x.one x.two x.one x.two x.differ x.differ).1 (inl (refl, refl)) in
           (x.one, x.two, l, x.two_below, p, q, (s, ls, o, (hc, hd))))
           (λ (l : x.two < x.one).
-          let (p, q) = (in_neither x.one x.two x.two x.one x.differ (Ne·symm x.differ)).1 (inr (refl, refl)) in
+          let (p, q) = (in_neither x.one x.two x.two x.one x.differ (Ne-symm x.differ)).1 (inr (refl, refl)) in
           (x.two, x.one, l, x.one_below, p, q, (s, ls, o, (hd, hc))))
           (lower_or_higher x.one x.two x.differ)
 
@@ -211,7 +212,7 @@ module _ (t : Table) (inside : ℕ → Bool) (adding : Bool) (r : ℕ) where
 
   refuses_at_reads : (g : ℕ) → (refuses_at t inside adding r g ≡ true) ↔ RefusesAt t Skin Other r g
   unfolding refuses_at
-  refuses_at_reads g = Iff·trans (and_reads (eqb_reads f g) (not_is (passes t inside adding r))) (refuses_by_f g)
+  refuses_at_reads g = Iff.trans (and_reads (eqb_reads f g) (not_is (passes t inside adding r))) (refuses_by_f g)
 
   pub passes_reads : (passes t inside adding r ≡ false) ↔ Refuses t Skin Other r
   passes_reads = (λ n. (f, (refuses_by_f f).0 (refl, n)), λ (g, x). ((refuses_by_f g).1 x).1)
@@ -267,7 +268,7 @@ module _ (t : Table) (marks : List ℕ) (p : Proposal) where
         let skin = skin_reads t (inside_in marks) (inside_reads marks) p.row in
         let (forth, back) = refuses_at_reads t (inside_in marks) (adds p) p.row f in (
           λ e. refuses_map t p.row skin other_reads f (forth e),
-          λ x. back (refuses_map t p.row (λ c. Iff·symm (skin c)) (λ s. Iff·symm (other_reads s)) f x),
+          λ x. back (refuses_map t p.row (λ c. Iff.symm (skin c)) (λ s. Iff.symm (other_reads s)) f x),
         )
 
   answers_read : Reads (answer_tests t marks p) answer_conditions
@@ -279,7 +280,7 @@ module _ (t : Table) (marks : List ℕ) (p : Proposal) where
       λ passed. (
         given_reads (holds_reads t p.row 0),
         λ _. (
-          given_reads (Iff·trans (other_side_reads (adds p) (inside_in marks) p.row) (other_reads (known passed) p.row)),
+          given_reads (Iff.trans (other_side_reads (adds p) (inside_in marks) p.row) (other_reads (known passed) p.row)),
           λ _. (given_reads (case_reads (known passed) 0), λ _. (given_reads (case_reads (known passed) 1), λ _. (given_reads (case_reads (known passed) 2), λ _. tt))),
         ),
       ),

@@ -65,7 +65,7 @@ module _ (t : Table) where
 
   pub holds_face_reads : (r : ℕ) (face : List ℕ) (s : ℕ) → (holds_face t r face s ≡ true) ↔ HoldsFace r face s
   unfolding holds_face
-  holds_face_reads r [] s = (λ _ c m. absurd (Memᴰ.not_nil m), λ _. refl)
+  holds_face_reads r [] s = (λ _ c m. absurd (Memᴰ.not-nil m), λ _. refl)
   holds_face_reads r (k ∷ face) s =
       let (forth, back) = holds_face_reads r face s in (
         λ e c m.
@@ -92,7 +92,7 @@ module _ (t : Table) where
 
     faces_read : (r : ℕ) (faces : List (List ℕ)) → (faces_joined t r faces ≡ true) ↔ ((face : List ℕ) → Among face faces → Joined (HoldsFace r face))
     unfolding faces_joined
-    faces_read r [] = (λ _ face m. absurd (Memᴰ.not_nil m), λ _. refl)
+    faces_read r [] = (λ _ face m. absurd (Memᴰ.not-nil m), λ _. refl)
     faces_read r (face ∷ faces) =
         let (forth, back) = faces_read r faces in (
           λ e other m.

@@ -2,7 +2,8 @@
 use Rattle.std.proofs.Math.Path.{◌≡◌, sym, ap}
 use Rattle.std.proofs.Common.{◌∙◌, zero-lt-suc, length-drop}
 use Rattle.std.specs.Prelude.{◌⊎◌, ◌↔◌, ◌≢◌, Bool, true, false, ◌&&◌, ◌||◌, length, get_or, drop, replicate}
-use Rattle.std.proofs.Math.Logic.{⊎_elim, Iff·trans}
+use Rattle.std.proofs.Math.Logic.Iff
+use Rattle.std.proofs.Math.Logic.{⊎_elim}
 use Rattle.std.proofs.Math.Bool.{not}
 use Rattle.std.proofs.Math.Option.{Option, some, none}
 use mathlib.Core.List.{List, [], ◌∷◌, ◌++◌}
@@ -223,7 +224,7 @@ module _ (t : Table) (id_count : ℕ) where
         lowest_first id_count (ringless t (inside_in marks) id_count)
             (λ v. SkinVertex t (Inside marks) v × (OneRing id_count (SkinTriangle t (Inside marks) v) → ⊥))
             (λ v _. and_reads (skin_vertex_reads t four (inside_in marks) (inside_reads marks) closed.paired v)
-            (not_reads (Iff·trans (one_ring_reads t (inside_in marks) id_count v) (ring_plain t four (inside_in marks) (inside_reads marks) id_count v)))),
+            (not_reads (Iff.trans (one_ring_reads t (inside_in marks) id_count v) (ring_plain t four (inside_in marks) (inside_reads marks) id_count v)))),
         λ _. rest,
       ),
     ),

@@ -134,7 +134,7 @@ module _ (t : Table) (four : t.corners ≡ 4) {id_count : ℕ} (paired : Paired 
     -- an empty skin is clean
     pub empty_clean : skin t inside ≡ [] → Clean t In id_count
     empty_clean none v l x =
-        absurd (Memᴰ.not_nil (subst (λ (xs : List (List ℕ)). Among (triangle t x.row x.corner) xs) none
+        absurd (Memᴰ.not-nil (subst (λ (xs : List (List ℕ)). Among (triangle t x.row x.corner) xs) none
         ((sides_listed (triangle t x.row x.corner)).1 (record {
           row = x.row;
           corner = x.corner;

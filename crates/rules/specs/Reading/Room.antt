@@ -4,7 +4,7 @@
 use Rattle.std.specs.Prelude.{◌≡◌, refl, ◌↔◌, ◌≢◌, true, false, ◌&&◌, eqb}
 use Rattle.std.proofs.Common.{sym, ap, ◌∙◌, le_refl, le_trans, le_of_eq, mul-one, mod-lt, arith, lit<, length-append}
 use Rattle.std.proofs.Math.Path.{subst}
-use Rattle.std.proofs.Math.Logic.{⊎_elim, Ne·symm}
+use Rattle.std.proofs.Math.Logic.{⊎_elim, Ne-symm}
 use Rattle.std.proofs.Math.Bool.{Bool, not, xor}
 use mathlib.Core.List.Memᴰ
 use mathlib.Core.List.{List, [], ◌∷◌, flatten}
@@ -103,7 +103,7 @@ module _ (t : Table) (inside : ℕ → Bool) where
             apart ne =
                 sum_same t.corners (λ c. bit (shared r c s)) (λ c. bit (side t r c s)) (λ c _. ap (λ (i : Bool). bit (not i && side t r c s)) (ne_eqb s r ne))
                 ∙ sides_back t r s (paired.rising r m) (paired.rising s l)
-                ∙ sum_same t.corners (λ d. bit (side t s d r)) (λ d. bit (shared s d r)) (λ d _. ap (λ (i : Bool). bit (not i && side t s d r)) (sym (ne_eqb r s (Ne·symm ne))))
+                ∙ sum_same t.corners (λ d. bit (side t s d r)) (λ d. bit (shared s d r)) (λ d _. ap (λ (i : Bool). bit (not i && side t s d r)) (sym (ne_eqb r s (Ne-symm ne))))
 
         is_outside : inside s ≡ false → sum t.rows (λ r. sum t.corners (λ c. bit (outside_of r c s))) ≤ sum t.corners (λ c. bit (not (inside s)))
         is_outside f =
@@ -284,7 +284,7 @@ module _ (t : Table) (inside : ℕ → Bool) {id_count : ℕ} (paired : Paired t
 
       twice : c ≢ d → ⊥
       twice ne =
-          let (k, lk, stays, q) = holds_triangle t four s d (t.id r d) (subst (λ (xs : List ℕ). Among (t.id r d) xs) e (triangle_holds t four r c d ld (Ne·symm ne))) in
+          let (k, lk, stays, q) = holds_triangle t four s d (t.id r d) (subst (λ (xs : List ℕ). Among (t.id r d) xs) e (triangle_holds t four r c d ld (Ne-symm ne))) in
           stays (one_corner t (paired.rising s ls) k d (subst (λ (n : ℕ). k < n) (sym four) lk) (rw four ld) (q ∙ ap (λ (x : ℕ). t.id x d) row))
 
   -- no triangle of the skin list stands twice

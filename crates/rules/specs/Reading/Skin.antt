@@ -2,7 +2,7 @@
 use Rattle.std.specs.Prelude.{◌≡◌, ◌⊎◌, ◌↔◌, ◌≢◌, Bool, false, not, ◌&&◌, List, ℕ, ◌<◌, get_or}
 use Rattle.std.proofs.Math.Path.{refl, ap}
 use Rattle.std.proofs.Common.{sym, ap₂, ◌∙◌, subst, inl, inr, ⊎_elim}
-use Rattle.std.proofs.Math.Logic.{Ne·symm}
+use Rattle.std.proofs.Math.Logic.{Ne-symm}
 use Rattle.std.proofs.Math.Bool.{true, xor, and_comm}
 use Rattle.std.proofs.Math.Dec.{eqb}
 use borrow.Author.Tests.{eqb-true, eq-eqb, eqb-false, ne_eqb, not-true}
@@ -215,7 +215,7 @@ module _ (t : Table) (four : t.corners ≡ 4) where
           (λ (e : x.second ≡ x.third). ab (sym x.second_is ∙ ap (t.id r) e ∙ x.third_is))
 
       left_out : c ≡ left.one
-      left_out = left.only c lc (Ne·symm x.first_stays, Ne·symm x.second_stays, Ne·symm x.third_stays)
+      left_out = left.only c lc (Ne-symm x.first_stays, Ne-symm x.second_stays, Ne-symm x.third_stays)
 
       back : Holds t s v × Holds t s a × Holds t s b → Side t r c s
       back (hv, ha, hb) k l ne =
@@ -240,9 +240,9 @@ module _ (t : Table) (four : t.corners ≡ 4) where
           first_below = rw four at li;
           second_below = rw four at lj;
           third_below = rw four at lk;
-          first_stays = Ne·symm x.is.0;
-          second_stays = Ne·symm x.is.1;
-          third_stays = Ne·symm x.is.2;
+          first_stays = Ne-symm x.is.0;
+          second_stays = Ne-symm x.is.1;
+          third_stays = Ne-symm x.is.2;
           first_is = pi;
           second_is = pj;
           third_is = pk;
@@ -306,7 +306,7 @@ module _ (t : Table) (four : t.corners ≡ 4) where
               on_skin_lem = x.on_skin_lem;
               is = x.ids.first_is;
             },
-        λ y. other_corners y (two_others y.corner y.at y.corner_below y.at_below (Ne·symm y.stays)),
+        λ y. other_corners y (two_others y.corner y.at y.corner_below y.at_below (Ne-symm y.stays)),
       )
         where
           other_corners : (y : SkinVertex t In v) → ExactlyTwo 4 (λ m. (m ≢ y.corner) × (m ≢ y.at)) → any id_count (far_end t inside id_count v) ≡ true
