@@ -1,4 +1,5 @@
 // Grid units as f32, and back.
+#![tactic(auto)]
 ghost use Rattle.std.specs.Prelude.{◌≡◌, true, from_bits};
 ghost use Rattle.std.specs.Float.{binary32};
 ghost use Rattle.rules.specs.Points.{in_range};
@@ -7,7 +8,7 @@ ghost use Rattle.grid.specs.Numbers.{read};
 
 // What a number of a file says: grid units; or the number itself, its bits and its facet. All NaNs are one number here, so that only the
 // bits hand each back as it stood.
-#[derive(Drop)]
+#[derive(Clone, Copy)]
 pub enum Number {
     Units(i16),
     Off(f32, u32, u32),

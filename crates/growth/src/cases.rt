@@ -19,7 +19,7 @@ use table::{across_at, id_at};
 use values::choose;
 
 // What the local test says of a row: it passes, or the case that refuses it, by what a row of the other side holds.
-#[derive(Drop)]
+#[derive(Clone, Copy)]
 pub(crate) enum Local {
     Passes,
     // f = 0: one of the vertices.
@@ -31,7 +31,7 @@ pub(crate) enum Local {
 }
 
 // How many of a row's triangles are on the skin, and the left-out corner of the last of them.
-#[derive(Drop)]
+#[derive(Clone, Copy)]
 struct LeftOut {
     count: usize,
     last: usize,

@@ -1,4 +1,5 @@
 // Growing: the five cases, and the answers to proposals.
+#![tactic(auto)]
 mod about;
 mod answering;
 mod cases;

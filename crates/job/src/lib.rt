@@ -1,4 +1,5 @@
 // The header of a job: counts, limits and offsets. Codes 1 to 4.
+#![tactic(auto)]
 ghost use Rattle.std.specs.Prelude.{◌≡◌, ◌+◌, ◌*◌, ◌≤◌, ◌<◌, length};
 ghost use Rattle.rules.specs.First.{first_match};
 ghost use Rattle.rules.specs.Job.{track, header_word, most_ids, most_rows, most_proposals, within, within_limits, laid_out, rows_at, marks_at, proposals_at, points_at, has_points, asks_outward, point_bytes, whole_length, work_room, list_room, short_rooms, layout_tests};
@@ -7,7 +8,7 @@ ghost use Rattle.job.specs.Reading.{meant, header, verdict_of, header_in};
 use words::word_at;
 
 // V, N, P and word 7.
-#[derive(Drop)]
+#[derive(Clone, Copy)]
 pub struct Header {
     pub ids: usize,
     pub rows: usize,
@@ -15,7 +16,7 @@ pub struct Header {
     pub mode: usize,
 }
 
-#[derive(Drop)]
+#[derive(Clone, Copy)]
 pub enum Reading {
     // Under 32 bytes.
     Short,

@@ -1,4 +1,5 @@
 // The listing of a job: the text that document 01 has printed of it.
+#![tactic(auto)]
 mod done;
 pub mod facets;
 mod text;

@@ -1,1 +1,2 @@
 // No code: that the five cases decide rings is proved in specs/.
+#![tactic(auto)]

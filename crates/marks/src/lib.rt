@@ -1,4 +1,5 @@
 // The starting marks. Codes 10 to 12.
+#![tactic(auto)]
 ghost use Rattle.std.specs.Prelude.{◌≡◌, ◌≤◌, length};
 ghost use Rattle.rules.specs.Below.{lowest};
 ghost use Rattle.rules.specs.First.{first_match};
@@ -14,7 +15,7 @@ use table::{holds, row_count};
 use values::Found;
 
 // The first rule that the marks break, with the row or the vertex that breaks it.
-#[derive(Drop)]
+#[derive(Clone, Copy)]
 pub enum Unfit {
     // The marks may be grown.
     Nothing,

@@ -1,1 +1,2 @@
 // No code: that the skin listed outward passes each edge once each way is proved in specs/.
+#![tactic(auto)]

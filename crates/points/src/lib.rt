@@ -1,4 +1,5 @@
 // Points on a table. Codes 13 to 15, and which way a triangle's rising ids pass.
+#![tactic(auto)]
 ghost use Rattle.std.specs.Prelude.{◌≡◌, false, ◌+◌, ◌*◌, ◌≤◌, ◌<◌, length};
 ghost use Rattle.std.proofs.Math.Option.{some};
 ghost use Rattle.rules.specs.Below.{lowest};
@@ -25,7 +26,7 @@ use values::Found;
 use volume::{at_origin, is_zero, on_grid, point_at, same_sign, volume};
 
 // The first rule that the points break, with the id or the lowest row that breaks it.
-#[derive(Drop)]
+#[derive(Clone, Copy)]
 pub enum Misplaced {
     // All points are in range, no finite row is flat, and finite neighbours are on different sides of their triangle.
     Nothing,

@@ -1,4 +1,5 @@
 // Rings: whether the far edges of a skin vertex form one ring.
+#![tactic(auto)]
 mod ring;
 mod tallies;
 

@@ -16,7 +16,7 @@ use table::faces::{Face, face_of};
 use values::choose;
 
 // The skin triangle that a turn comes to: the rows on its two sides and its third id. `two` if the edge is in no further skin triangle.
-#[derive(Drop)]
+#[derive(Clone, Copy)]
 struct Landing {
     two: bool,
     inner: usize,

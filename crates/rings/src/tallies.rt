@@ -12,7 +12,7 @@ use table::faces::{Face, face_of};
 use table::row_count;
 use values::choose;
 
-#[derive(Drop)]
+#[derive(Clone, Copy)]
 pub(crate) struct Tally {
     pub(crate) count: usize,
     pub(crate) place: usize,

@@ -1,4 +1,5 @@
 // The rows about an edge, walked through the neighbour list.
+#![tactic(auto)]
 ghost use Rattle.std.specs.Prelude.{◌≡◌, ◌≢◌, ◌≤◌, ◌<◌, length};
 ghost use Rattle.rules.specs.Proposals.{inside_in};
 ghost use Rattle.rules.specs.Table.{across};
@@ -11,14 +12,14 @@ use table::{across_at, id_at};
 use values::choose;
 
 // The row at which a walk stops, and the row that would be next.
-#[derive(Drop)]
+#[derive(Clone, Copy)]
 pub struct Stop {
     pub at: usize,
     pub next: usize,
 }
 
 // The way on about an edge: the row across, and the id of the corner that is left out.
-#[derive(Drop)]
+#[derive(Clone, Copy)]
 pub struct Way {
     pub row: usize,
     pub id: usize,

@@ -6,7 +6,7 @@ ghost use Rattle.stl.specs.Corners.{corner, Numbers, corner_bytes, corner_at};
 use grid::{float_of, metres_of};
 use words::{put_word, word_at};
 
-#[derive(Drop)]
+#[derive(Clone, Copy)]
 pub struct Corner {
     pub x: f32,
     pub y: f32,

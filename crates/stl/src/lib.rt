@@ -1,4 +1,5 @@
 // Binary STL of grid units: the facet writer and the reader.
+#![tactic(auto)]
 pub mod corner;
 pub mod facet;
 mod header;

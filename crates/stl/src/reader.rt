@@ -14,7 +14,7 @@ use grid::{Number, float_of, number_of};
 use words::word_at;
 
 // What is wrong with a facet: nothing; its normal or its u16; or a number off the grid, which is handed back with its bits and its facet.
-#[derive(Drop)]
+#[derive(Clone, Copy)]
 pub(crate) enum Fault {
     Sound,
     NotZero,
@@ -22,7 +22,7 @@ pub(crate) enum Fault {
 }
 
 // So many facets, or the first refusal.
-#[derive(Drop)]
+#[derive(Clone, Copy)]
 pub enum Reading {
     Facets(u32),
     // Under 84 bytes, over 4,096 facets, or another length than they ask for.

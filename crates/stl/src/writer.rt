@@ -14,7 +14,7 @@ use crate::facet::{put_facet, put_front};
 use values::Found;
 
 // A file, or the first refusal.
-#[derive(Drop)]
+#[derive(Clone, Copy)]
 pub enum Writing {
     Done,
     // Not whole facets, or over 4,096 of them.

@@ -6,7 +6,7 @@ ghost use Rattle.io.specs.Counts.{IsPrefixLen, clamp_len};
 use libc::STDIN_FILENO;
 
 // How many bytes came, and whether a read failed: an error of the disk is not the end of the input.
-#[derive(Drop)]
+#[derive(Clone, Copy)]
 pub struct Input {
     pub count: usize,
     pub failed: bool,

@@ -62,7 +62,7 @@ fn next_place(next: &[u16; 12288], place: usize) -> usize
     from_u16(next[place])
 }
 
-#[derive(Drop)]
+#[derive(Clone, Copy)]
 pub(crate) struct Like {
     pub(crate) count: usize,
     pub(crate) other: usize,

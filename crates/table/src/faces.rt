@@ -13,7 +13,7 @@ const CORNERS: [u8; 42] = [
     0, 1, 1, 1, 2, 2, 2, 3, 3, 3,
 ];
 
-#[derive(Drop)]
+#[derive(Clone, Copy)]
 pub struct Face {
     pub a: usize,
     pub b: usize,

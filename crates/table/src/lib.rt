@@ -1,4 +1,5 @@
 // The table: rows, neighbours, and the rules of a closed table. Codes 5 to 9.
+#![tactic(auto)]
 mod across;
 mod chains;
 pub mod faces;
@@ -24,7 +25,7 @@ use values::{Found, from_u32};
 use view::{id_in, view_of};
 
 // The first rule that the table breaks, with the lowest row that breaks it.
-#[derive(Drop)]
+#[derive(Clone, Copy)]
 pub enum Broken {
     // The table is closed.
     Nothing,

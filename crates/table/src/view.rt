@@ -5,7 +5,7 @@ ghost use Rattle.table.specs.Rows.{id_in, rows_in};
 
 use words::word_at;
 
-#[derive(Drop)]
+#[derive(Clone, Copy)]
 pub(crate) struct RowView<'a> {
     bytes: &'a [u8],
 }

@@ -1,4 +1,5 @@
 // The run: a job is read, its table, its marks and its points are checked, its proposals are answered and its skin is listed.
+#![tactic(auto)]
 mod grown;
 
 ghost use Rattle.std.specs.Prelude.{◌≡◌, ◌≤◌, length};
@@ -21,7 +22,7 @@ use points::{Misplaced, check_points};
 use table::{Broken, check, clear};
 
 // Code and place as document 01 has them, and the numbers of proposals taken and of skin triangles.
-#[derive(Drop)]
+#[derive(Clone, Copy)]
 pub struct Outcome {
     pub code: usize,
     pub place: usize,

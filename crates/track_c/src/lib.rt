@@ -1,4 +1,5 @@
 // The run and binary STL, for C and Rust.
+#![tactic(auto)]
 mod files;
 mod told;
 

@@ -1,11 +1,12 @@
 // Points in whole units, and the product by which a side is told. Nothing is rounded and nothing wraps.
+#![tactic(auto)]
 ghost use Rattle.std.specs.Prelude.{◌≡◌, ◌+◌, ◌*◌, ◌≤◌, ◌<◌, length, ◌+ℤ◌, ◌-ℤ◌, ◌*ℤ◌};
 ghost use Rattle.rules.specs.Points as R;
 ghost use Rattle.rules.specs.Job.{most_ids};
 ghost use Rattle.volume.specs.Bound.{Within, Exact, read_most, grid_most, apart_most, minor_most, product_most};
 ghost use Rattle.volume.specs.Meant.{meant, Near};
 
-#[derive(Drop)]
+#[derive(Clone, Copy)]
 pub struct Point {
     pub x: i64,
     pub y: i64,

@@ -1,1 +1,2 @@
 // No code: laws of whole numbers are proved in specs/.
+#![tactic(auto)]

@@ -1,6 +1,7 @@
 // The workshop's program: standard input is a job, and the STL file of its skin is printed, or it is such a file, and its facets are. It
 // tells on standard error what failed, and then nothing stands on standard output that is not whole; a refusal goes to the script beside
 // it alone, so that it has nothing there either.
+#![tactic(auto)]
 mod read;
 mod said;
 mod write;

@@ -7,7 +7,7 @@ use lines::refused_line;
 use streams::output::{print_whole, tell};
 
 // So many bytes at the front of a buffer: a text to print, or the line of a refusal.
-#[derive(Drop)]
+#[derive(Clone, Copy)]
 pub(crate) struct Said {
     pub(crate) size: usize,
     pub(crate) refused: bool,

@@ -1,0 +1,7 @@
+use Rattle.std.proofs.Common.{refl}
+use Rattle.table.specs.Faces.{key_of}
+use Rattle.table.proofs.faces.key_of.Goals as goal
+
+pub returns : goal.returns
+unfolding key_of
+returns c = refl

@@ -1,0 +1,5 @@
+use Rattle.rules.specs.Laws.Words.{word_four}
+use Rattle.words.proofs.word_at.Goals as goal
+
+pub returns : goal.returns
+returns c = rw word_four c.joined.ensures
