@@ -1,0 +1,24 @@
+use Rattle.std.proofs.Common.{refl, sym, ◌∙◌, mod-lt, arith, lit<}
+use Rattle.rings.specs.Follow.{none_shown, start_row, start_edge}
+use Rattle.table.specs.Ground.{neighbour_listed}
+use Rattle.rings.proofs.ring.is_ring.Goals as goal
+
+pub returns-then-total-eq0 : goal.returns-then-total-eq0
+returns-then-total-eq0 c = let given = c.requires in none_shown given.0.closed refl _ _ (sym given.3.counted ∙ c.if-total-eq0.true)
+
+pub face_of-requires : goal.face_of-requires
+face_of-requires c =
+    let given = c.requires in
+    (start_row given.0.closed refl _ _ given.3.counted given.3.last c.if-total-eq0.false, omega arith, given.2)
+
+pub across_at-outer-requires : goal.across_at-outer-requires
+across_at-outer-requires c =
+    let given = c.requires in
+    neighbour_listed given.0.ground _ _ (start_row given.0.closed refl _ _ given.3.counted given.3.last c.if-total-eq0.false) (mod-lt _ (lit< tt))
+
+pub follow-requires : goal.follow-requires
+follow-requires c =
+    let given = c.requires in
+    let some = c.if-total-eq0.false in
+    let row = start_row given.0.closed refl _ _ given.3.counted given.3.last some in
+    (given.0, given.1, rw (c.first_end-first.ensures, c.face_of.ensures, c.across_at-outer.ensures, given.0.ground.at _ _ row (mod-lt c.args.place (lit< tt))) (start_edge given.0.closed refl _ _ given.3.counted given.3.last some), given.3.counted)

@@ -1,0 +1,16 @@
+use Rattle.std.proofs.Common.{refl, arith}
+use Rattle.rings.specs.Follow.{two_known, two_asked}
+use Rattle.rings.specs.Sides.{between_near}
+use Rattle.round.specs.Edge.{near_back}
+use Rattle.rings.proofs.ring.is_two.Goals as goal
+
+pub returns-then-end-low : goal.returns-then-end-low
+returns-then-end-low c = let given = c.requires in two_known given.0.closed refl given.2 (given.1 _ c.if-end-low.true)
+
+pub turn-without-requires : goal.turn-without-requires
+turn-without-requires c =
+    let (marked, _, (_, here), _) = c.requires in
+    ((_, marked.ground), omega (arith, marked.each), here.differ.0, near_back marked.closed.paired refl here.differ.0 _ _ (between_near marked.closed.paired refl here))
+
+pub returns : goal.returns
+returns c = let given = c.requires in two_asked given.0.closed refl given.2 given.3 c.turn-without.ensures
