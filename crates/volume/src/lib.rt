@@ -1,5 +1,6 @@
 // Points in whole units, and the product by which a side is told. Nothing is rounded and nothing wraps.
 #![tactic(auto)]
+
 ghost use Rattle.std.specs.Prelude.{◌≡◌, ◌+◌, ◌*◌, ◌≤◌, ◌<◌, length, ◌+ℤ◌, ◌-ℤ◌, ◌*ℤ◌};
 ghost use Rattle.rules.specs.Points as R;
 ghost use Rattle.rules.specs.Job.{most_ids};
