@@ -28,7 +28,7 @@ use Rattle.table.specs.Faces.{triangles, face_corners, corner_of, face_of, holds
 
 pub triangle_ids : (bytes : List ℕ) (r c : ℕ) → c < 4
     → triangle (table_in bytes) r c ≡ id_in bytes r (corner_of c 0) ∷ id_in bytes r (corner_of c 1) ∷ id_in bytes r (corner_of c 2) ∷ []
-unfolding triangle facet pick gather only corner_of face_corners triangle_table edge_table vertex_table tabulate map flatten
+unfolding triangle facet pick gather only corner_of face_corners triangle_table edge_table vertex_table tabulate flatten
 triangle_ids bytes r = below_suc P 3 (below_suc P 2 (below_suc P 1 (below_suc P 0 (λ c l. absurd (not-suc-le-zero l)) refl) refl) refl) refl
   where
     P : ℕ → Type 0
@@ -74,7 +74,7 @@ outer_asked t r rising some =
 
 -- a triangle's corners are not the one that is left out
 apart_pass : all 4 (λ c. all 3 (λ k. not (eqb (corner_of c k) c))) ≡ true
-unfolding all corner_of face_corners triangle_table edge_table vertex_table tabulate gather map flatten
+unfolding all corner_of face_corners triangle_table edge_table vertex_table tabulate gather flatten
 apart_pass = refl
 
 corner_apart : (c k : ℕ) → c < 4 → k < 3 → corner_of c k ≢ c
@@ -84,7 +84,7 @@ corner_apart c k l m =
 
 -- and each other corner is one of them
 each_pass : all 4 (λ c. all 4 (λ k. eqb k c || (eqb k (corner_of c 0) || (eqb k (corner_of c 1) || eqb k (corner_of c 2))))) ≡ true
-unfolding all corner_of face_corners triangle_table edge_table vertex_table tabulate gather map flatten
+unfolding all corner_of face_corners triangle_table edge_table vertex_table tabulate gather flatten
 each_pass = refl
 
 pub each_corner : (c k : ℕ) → c < 4 → k < 4 → (k ≡ c) ⊎ ((k ≡ corner_of c 0) ⊎ ((k ≡ corner_of c 1) ⊎ (k ≡ corner_of c 2)))
@@ -101,7 +101,7 @@ unfoldable pub face_sum : Face → ℕ
 face_sum f = f.a + f.b + f.c
 
 pub row_sum : (t : Table) (r c : ℕ) → c < 4 → id_sum t r ≡ face_sum (face_of t r c) + t.id r c
-unfolding id_sum face_sum face_of corner_of face_corners triangle_table edge_table vertex_table tabulate gather map flatten
+unfolding id_sum face_sum face_of corner_of face_corners triangle_table edge_table vertex_table tabulate gather flatten
 row_sum t r =
     below_suc P 3 (below_suc P 2 (below_suc P 1 (below_suc P 0 (λ c l. absurd (not-suc-le-zero l)) (omega arith)) (omega arith)) (omega arith)) refl
   where

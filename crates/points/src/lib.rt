@@ -1,5 +1,6 @@
 // Points on a table. Codes 13 to 15, and which way a triangle's rising ids pass.
 #![tactic(auto)]
+
 ghost use Rattle.std.specs.Prelude.{◌≡◌, false, ◌+◌, ◌*◌, ◌≤◌, ◌<◌, length};
 ghost use Rattle.std.proofs.Math.Option.{some};
 ghost use Rattle.rules.specs.Below.{lowest};
