@@ -23,6 +23,6 @@ unequal_xor false false = refl
 pub between_skin : {bytes neighbours : List ℕ} {ids : ℕ} → Ground bytes neighbours ids → (r c : ℕ) → r < rows_in bytes → c < 4 → (marks : List ℕ)
     → between neighbours marks r c ≡ on_skin (table_in bytes) (inside_in marks) r c
 unfolding between
-between_skin {bytes} ground r c l m marks =
-    ap (λ (s : ℕ). xor (inside_in marks r) (inside_in marks s)) (ground.at r c l m)
-    ∙ sym (skin_between (table_in bytes) (inside_in marks) ground.paired r c l m)
+between_skin {bytes} on_ground r c l m marks =
+    ap (λ (s : ℕ). xor (inside_in marks r) (inside_in marks s)) (on_ground.at r c l m)
+    ∙ sym (skin_between (table_in bytes) (inside_in marks) on_ground.paired r c l m)
