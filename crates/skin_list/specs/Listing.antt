@@ -86,10 +86,10 @@ module _ (bytes marks : List ℕ) (ids : ℕ → ℕ → List ℕ) where
 -- a place is in the neighbour list, and the rows on both sides have marks
 pub place_fits : {bytes neighbours : List ℕ} {ids : ℕ} → Ground bytes neighbours ids → (marks : List ℕ) → rows_in bytes ≤ length marks → (place : ℕ) → place < 4 * rows_in bytes
     → (4 * (place / 4) + place % 4 < length neighbours) × (place / 4 < length marks) × (get_or neighbours (4 * (place / 4) + place % 4) 0 < length marks)
-place_fits {bytes} ground marks room place here =
+place_fits {bytes} on_ground marks room place here =
     let row : place / 4 < rows_in bytes = row_below {m = 4} (lit< tt) (rows_in bytes) place here in
     let corner : place % 4 < 4 = mod-lt place (lit< tt) in
-    (neighbour_listed ground (place / 4) (place % 4) row corner, le_trans row room, le_trans (neighbour_below ground (place / 4) (place % 4) row corner) room)
+    (neighbour_listed on_ground (place / 4) (place % 4) row corner, le_trans row room, le_trans (neighbour_below on_ground (place / 4) (place % 4) row corner) room)
 
 module _ {bytes neighbours : List ℕ} {id_count : ℕ} (ground : Ground bytes neighbours id_count) (marks : List ℕ) (ids : ℕ → ℕ → List ℕ) (threes : (r c : ℕ) → c < 4 → length (ids r c) ≡ 3)
     {place n : ℕ} {triangles triangles₀ : List ℕ} (l : Listing bytes marks ids place n triangles triangles₀)

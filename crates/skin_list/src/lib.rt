@@ -1,5 +1,6 @@
 // The skin list: the triangles between an inside row and an outside row, three ids each.
 #![tactic(auto)]
+
 ghost use Rattle.std.specs.Prelude.{◌≡◌, true, not, ◌&&◌, cond, ◌+◌, ◌*◌, ◌/◌, ◌≤◌, ◌<◌, length, get_or, set};
 ghost use Rattle.std.proofs.Math.Option.{some};
 ghost use mathlib.Core.List.{flatten};
