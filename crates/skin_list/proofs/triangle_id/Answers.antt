@@ -8,4 +8,4 @@ id_at-requires c = (search rules, rw c.corner_of.ensures (corner_below _ _ (sear
 
 pub overflow_cast-result : goal.overflow_cast-result
 overflow_cast-result c =
-    omega (arith, c.id_at.ensures, id_fits c.args.rows.now (λ k. omega (arith, c.shared_slice_known-1.given k)) c.args.row c.corner_of.result (search rules) (rw c.corner_of.ensures (corner_below c.args.corner c.args.k (search rules) (search rules))))
+    omega (arith, c.id_at.ensures, id_fits c.args.rows.now (λ k. omega (arith, c.type_inv.rows k)) c.args.row c.corner_of.result (search rules) (rw c.corner_of.ensures (corner_below c.args.corner c.args.k (search rules) (search rules))))

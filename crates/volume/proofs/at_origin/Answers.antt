@@ -1,3 +1,4 @@
+use Rattle.std.proofs.Common.{rules}
 use Rattle.rules.specs.Points as R
 use Rattle.volume.specs.Bound.{whole}
 use Rattle.volume.proofs.at_origin.Goals as goal
@@ -5,13 +6,12 @@ use Rattle.volume.proofs.at_origin.Goals as goal
 pub returns : goal.returns
 unfolding R.at_origin
 returns c =
-    let fits = c.struct_told-3-1.given in
     let p = c.args.p in
     cc (
       c.is_zero.ensures,
       c.is_zero-2.ensures,
       c.is_zero-3.ensures,
-      whole {z = p.x} (record { sfits = fits.0.1 }),
-      whole {z = p.y} (record { sfits = fits.1.0.1 }),
-      whole {z = p.z} (record { sfits = fits.1.1.0.1 }),
+      whole {z = p.x} (search rules),
+      whole {z = p.y} (search rules),
+      whole {z = p.z} (search rules),
     )
