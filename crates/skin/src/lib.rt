@@ -1,5 +1,6 @@
 // The two sides: the marks of rows, and the triangles between them.
 #![tactic(auto)]
+
 ghost use Rattle.std.specs.Prelude.{◌≡◌, ◌+◌, ◌*◌, ◌<◌, length, get_or};
 ghost use Rattle.rules.specs.Proposals.{inside_in};
 ghost use Rattle.skin.specs.Between.{between};
