@@ -21,10 +21,10 @@ pub record Surrounded (neighbours marks : List ℕ) (r : ℕ) : Type 0 where
   pub across : (c : ℕ) → c < 4 → get_or neighbours (4 * r + c) 0 < length marks
 
 pub ground_surrounds : {rows neighbours : List ℕ} {ids : ℕ} (marks : List ℕ) (r : ℕ) → Ground rows neighbours ids → rows_in rows ≤ length marks → r < rows_in rows → Surrounded neighbours marks r
-ground_surrounds marks r ground m l = record {
+ground_surrounds marks r on_ground m l = record {
   here = omega arith;
-  listed = λ c k. neighbour_listed ground r c l k;
-  across = λ c k. omega (arith, neighbour_below ground r c l k);
+  listed = λ c k. neighbour_listed on_ground r c l k;
+  across = λ c k. omega (arith, neighbour_below on_ground r c l k);
 }
 
 pub area_surrounds : {rows work marks : List ℕ} {ids : ℕ} → Area rows work marks ids → (r : ℕ) → r < rows_in rows → Surrounded work marks r

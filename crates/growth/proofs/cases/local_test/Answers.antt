@@ -1,4 +1,4 @@
-use Rattle.std.proofs.Common.{sym, ◌∙◌, arith}
+use Rattle.std.proofs.Common.{rules, sym, ◌∙◌, arith}
 use Rattle.growth.specs.Around.{area_surrounds}
 use Rattle.growth.specs.Cases.{case_none, case_one, case_two, case_more}
 use Rattle.tallies.specs.Area.{area_ground, area_closed}
@@ -8,20 +8,20 @@ pub left_out-skin-requires : goal.left_out-skin-requires
 left_out-skin-requires c = area_surrounds c.requires.0 _ c.requires.1
 
 pub edge_free-requires : goal.edge_free-requires
-edge_free-requires c = (area_closed c.requires.0, omega (arith, c.requires.0.each), c.requires.1, sym c.left_out-skin.ensures.counted ∙ c.in-0.keys3)
+edge_free-requires c = (area_closed c.requires.0, omega (arith, c.requires.0.each), c.requires.1, sym c.left_out-skin.ensures.counted ∙ c.in-2.is)
 
 pub returns-in-0 : goal.returns-in-0
 returns-in-0 c =
-    c.unless_free.ensures ∙ case_none (area_ground c.requires.0) _ _ _ c.requires.1 c.left_out-skin.ensures c.in-0.keys1 (c.vertices_free.ensures _ c.requires.0)
+    c.unless_free.ensures ∙ case_none (area_ground c.requires.0) _ _ _ c.requires.1 c.left_out-skin.ensures c.in-0.is (c.vertices_free.ensures _ c.requires.0)
 
 pub returns-in-1 : goal.returns-in-1
 returns-in-1 c =
-    c.unless_free-in-1.ensures ∙ case_one (area_ground c.requires.0) _ _ _ c.requires.1 c.left_out-skin.ensures c.in-0.keys2 (c.vertex_free.ensures _ c.requires.0)
+    c.unless_free-in-1.ensures ∙ case_one (area_ground c.requires.0) _ _ _ c.requires.1 c.left_out-skin.ensures c.in-1.is (c.vertex_free.ensures _ c.requires.0)
 
 pub returns-in-2 : goal.returns-in-2
 returns-in-2 c =
-    c.unless_free-in-2.ensures ∙ case_two (area_ground c.requires.0) _ _ _ c.requires.1 c.left_out-skin.ensures c.in-0.keys3 c.edge_free.ensures
+    c.unless_free-in-2.ensures ∙ case_two (area_ground c.requires.0) _ _ _ c.requires.1 c.left_out-skin.ensures c.in-2.is c.edge_free.ensures
 
 pub returns-in_default : goal.returns-in_default
 returns-in_default c =
-    case_more (area_ground c.requires.0) _ _ _ c.requires.1 c.left_out-skin.ensures c.in-0.rest.0.0.1 c.in-0.rest.0.1 c.in-0.rest.1
+    case_more (area_ground c.requires.0) _ _ _ c.requires.1 c.left_out-skin.ensures (search rules) (search rules) (search rules)

@@ -9,7 +9,7 @@ unfolding all
 loop-corner-init c = λ marks a. refl
 
 pub returns-then-not-vertex_free : goal.returns-then-not-vertex_free
-returns-then-not-vertex_free c = λ marks a. sym (fails_all 4 _ _ c.loop-corner-test.true (sym (c.vertex_free.ensures marks a) ∙ c.if-not-vertex_free.true)
+returns-then-not-vertex_free c = λ marks a. sym (fails_all 4 _ _ c.loop-corner-test.true (sym (c.vertex_free.ensures marks a) ∙ c.if-not-vertex_free.true))
 
 pub loop-corner-preserved : goal.loop-corner-preserved
 loop-corner-preserved c = λ marks a. all_yet _ _ (c.loop-corner.invariant marks a) (sym (c.vertex_free.ensures marks a) ∙ c.if-not-vertex_free.false)
