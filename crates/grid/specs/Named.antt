@@ -11,7 +11,7 @@ use Rattle.rules.specs.Below.{any, lowest}
 use Rattle.rules.specs.Points.{grid_most, in_range}
 use Rattle.rules.specs.Stl.{metres, bits_of, grid_number, written_for, bits_off, units_of}
 use Rattle.rules.specs.Laws.Truth.{is_false}
-use Rattle.rules.specs.Laws.Below.{Lowest, is_lowest, lowest_is, none_lowest, any_here, any_some, any_none}
+use Rattle.rules.specs.Laws.Below.{is_lowest, lowest_is, none_lowest, any_here, any_some, any_none}
 use Rattle.grid.specs.Sweep.{place, place_number, number_in_range, numbered}
 use Rattle.grid.specs.Exact.{bits_one}
 

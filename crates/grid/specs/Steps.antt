@@ -1,5 +1,5 @@
 -- What the code's steps rest on.
-use Rattle.std.specs.Prelude.{◌≡◌, ℕ, zero, suc, ◌+◌, ◌-◌, ◌*◌, ◌/◌, ◌^◌, ◌<◌, ◌≤◌, min, Bool, true, false, not, ◌&&◌, T, ◌⊎◌, ℤ, pos, negsuc, neg_ℤ, FitsSigned, ◌==◌, ◌≢◌, nat_le, nat_lt, refl, Float}
+use Rattle.std.specs.Prelude.{◌≡◌, ℕ, zero, suc, ◌+◌, ◌-◌, ◌*◌, ◌/◌, ◌^◌, ◌<◌, ◌≤◌, min, Bool, true, false, not, ◌&&◌, T, ℤ, pos, negsuc, neg_ℤ, FitsSigned, ◌==◌, ◌≢◌, nat_le, nat_lt, refl, Float}
 use Rattle.std.proofs.Common.{sym, ap, ◌∙◌, subst, ⊎_elim, div-lt_iff_lt-mul, arith, to_z, of_z, eqb-true, ltb-true, le-leb, lt-ltb, leb-true}
 use Rattle.std.proofs.Math.Nat.{min-le_left}
 use Rattle.std.specs.Int.Signed.{mag}
