@@ -1,5 +1,5 @@
 -- What is wrong with a number, a corner and a facet.
-use Rattle.std.specs.Prelude.{◌≡◌, Bool, not, ◌&&◌, cond, List, ℕ, zero, suc, ◌+◌, eqb, get_or, Float}
+use Rattle.std.specs.Prelude.{◌≡◌, Bool, ◌&&◌, cond, List, ℕ, zero, suc, ◌+◌, eqb, get_or, Float}
 use Rattle.std.proofs.Math.Path.{refl, subst}
 use Rattle.std.proofs.Common.{sym, ap, ◌∙◌, arith, eqb-true, eq-eqb}
 use Rattle.std.proofs.Math.Bool.{true, false}
@@ -11,7 +11,7 @@ use Rattle.rules.specs.Words.{word}
 use Rattle.rules.specs.Stl.{facet_at, number_at, blank, bits_off, bits_at, faulty, first_off}
 use Rattle.rules.specs.Laws.Truth.{not_both, is_false, same_test, and_first, and_second, and_both}
 use Rattle.rules.specs.Laws.Words.{word_zero}
-use Rattle.rules.specs.Laws.Below.{Lowest, lowest_is, lowest_none, any_here, any_some}
+use Rattle.rules.specs.Laws.Below.{lowest_is, lowest_none, any_here, any_some}
 use Rattle.grid.specs.Numbers.{read}
 use Rattle.grid.specs.declared.Number.{Number}
 use Rattle.grid.specs.declared.Number.TheVariants as number

@@ -11,9 +11,9 @@ use Rattle.rules.specs.Job.{written}
 use Rattle.rules.specs.Stl.{count_in, ill_sized, headed, faulty, first_fault, not_zero, read_tests, units_in, Read, handed_back, read_file}
 use Rattle.rules.specs.Laws.Truth.{not_both}
 use Rattle.rules.specs.Laws.First.{match_here, match_later, match_end}
-use Rattle.rules.specs.Laws.Below.{Lowest, lowest_is}
+use Rattle.rules.specs.Laws.Below.{lowest_is}
 use Rattle.trips.specs.Readable.{Readable, read_exactly, read_whole, read_verdict}
-use Rattle.stl.specs.Faults.{facet_fault, Astray, fault_told}
+use Rattle.stl.specs.Faults.{facet_fault, fault_told}
 use Rattle.stl.specs.declared.reader.Fault.{Fault}
 use Rattle.stl.specs.declared.reader.Fault.TheVariants as fault
 use Rattle.stl.specs.declared.reader.Reading.{Reading}
