@@ -28,7 +28,7 @@ use Rattle.outward.specs.Row.{id_below}
 use Rattle.outward.specs.Outward.{as_rising}
 use Rattle.job.specs.Reading.{header}
 use Rattle.track.specs.declared.Outcome.{Outcome}
-use Rattle.track.specs.Outcomes.{result}
+use Rattle.track.specs.Outcomes.{result_of}
 use Rattle.track.specs.Accepted.{job_accepted, job_closed, place_is}
 use Rattle.track_stl.specs.Corners.{three_units, unit_before, unit_at_lem}
 use Rattle.track_stl.specs.Ran.{told, outward_few, ran_is, triangles_told}
@@ -61,7 +61,7 @@ coordinate_on p ((x, y), z) (suc (suc (suc c))) l = absurd (omega arith)
 
 -- ---- the file of a run that was accepted, where there are points and room
 
-module _ (bytes : List ℕ) (before : Lent) (file : List ℕ) {o : Outcome} {after : Lent} {file_left : List ℕ} (same : result o after ≡ run track bytes before) (zero_code : o.code ≡ 0)
+module _ (bytes : List ℕ) (before : Lent) (file : List ℕ) {o : Outcome} {after : Lent} {file_left : List ℕ} (same : result_of o after ≡ run track bytes before) (zero_code : o.code ≡ 0)
     (at : ℕ → Point) (points : (job_of track bytes).points ≡ some at) (room : needed bytes ≤ length file) (left_is : file_left ≡ written (skin_file (job_of track bytes)) file) where
   abbrev the : Job
   the = job_of track bytes
@@ -252,7 +252,7 @@ module _ (bytes : List ℕ) (before : Lent) (file : List ℕ) {o : Outcome} {aft
       let left : Exported → Lent = λ (y : Exported). y.result.left in
       by_way (λ r. ap left (if_refused r)) (λ p. ap left (if_pointless p)) (λ p. ap left (if_short p)) (λ p. ap left (if_roomy p))
 
-  run_is : Roomy → result o after ≡ ran
+  run_is : Roomy → result_of o after ≡ ran
   run_is p = ap (λ (y : Exported). y.result) (if_roomy p)
 
   twenty : (o.code ≡ 20) ↔ NoPoints

@@ -17,12 +17,12 @@ use Rattle.rules.specs.Reading.Listing.{finite_skin}
 use Rattle.rules.specs.Reading.Outward.{three_each, listed_ids}
 use Rattle.manifold.specs.Jobs.{job_alike}
 use Rattle.track.specs.declared.Outcome.{Outcome}
-use Rattle.track.specs.Outcomes.{result}
+use Rattle.track.specs.Outcomes.{result_of}
 use Rattle.track.specs.Accepted.{job_accepted}
 use Rattle.demands.specs.Demands.{Demand2, FiniteSkin}
 use Rattle.demands.specs.Grown.{demand_2}
 
-module _ (bytes : List ℕ) (before : Lent) {o : Outcome} {after : Lent} (ran : result o after ≡ run track bytes before) (zero_code : o.code ≡ 0) where
+module _ (bytes : List ℕ) (before : Lent) {o : Outcome} {after : Lent} (ran : result_of o after ≡ run track bytes before) (zero_code : o.code ≡ 0) where
   abbrev job : Job
   job = job_of track bytes
 

@@ -4,10 +4,10 @@ use Rattle.std.proofs.Common.{sym, ap, ◌∙◌}
 use Rattle.rules.specs.Job.{track, Lent, Result, run}
 use Rattle.rules.specs.Reading.Codes.{run_code_below, code_exactly, accepted_exactly, refusal_keeps, early_refusal, late_refusal}
 use Rattle.track.specs.declared.Outcome.{Outcome}
-use Rattle.track.specs.Outcomes.{result}
+use Rattle.track.specs.Outcomes.{result_of}
 use Rattle.demands.specs.Demands.{Demand1}
 
-module _ (bytes : List ℕ) (before : Lent) {o : Outcome} {after : Lent} (ran : result o after ≡ run track bytes before) where
+module _ (bytes : List ℕ) (before : Lent) {o : Outcome} {after : Lent} (ran : result_of o after ≡ run track bytes before) where
   pub code_is : o.code ≡ (run track bytes before).code
   code_is = ap (λ (r : Result). r.code) ran
 

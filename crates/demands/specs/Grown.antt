@@ -19,11 +19,11 @@ use Rattle.rules.specs.Reading.Room.{skin_same_length, skin_once, skin_listed}
 use Rattle.rules.specs.Reading.Listing.{triangle_rises, sides_listed, skin_order}
 use Rattle.manifold.specs.Steps.{after_taken, after_refused}
 use Rattle.track.specs.declared.Outcome.{Outcome}
-use Rattle.track.specs.Outcomes.{result}
+use Rattle.track.specs.Outcomes.{result_of}
 use Rattle.track.specs.Accepted.{job_closed, answers_are, marks_are, triangles_are, work_is, taken_is, triangles_is, place_is}
 use Rattle.demands.specs.Demands.{proposal_at, Demand2}
 
-module _ (bytes : List ℕ) (before : Lent) {o : Outcome} {after : Lent} (ran : result o after ≡ run track bytes before) (zero_code : o.code ≡ 0) where
+module _ (bytes : List ℕ) (before : Lent) {o : Outcome} {after : Lent} (ran : result_of o after ≡ run track bytes before) (zero_code : o.code ≡ 0) where
   abbrev job : Job
   job = job_of track bytes
 

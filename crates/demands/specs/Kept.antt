@@ -5,7 +5,7 @@ use Rattle.rules.specs.Proposals.{taken}
 use Rattle.rules.specs.Job.{track, header_of, Lent, codes, run}
 use Rattle.rules.specs.Laws.Truth.{true_or_false, same_or_not}
 use Rattle.track.specs.declared.Outcome.{Outcome}
-use Rattle.track.specs.Outcomes.{result}
+use Rattle.track.specs.Outcomes.{result_of}
 use Rattle.demands.specs.Demands.{Demands}
 use Rattle.demands.specs.Given.{demand_1}
 use Rattle.demands.specs.Grown.{demand_2}
@@ -15,7 +15,7 @@ use Rattle.demands.specs.Outwards.{skin_outward}
 use Rattle.demands.specs.Tallies.{corner_tallies}
 
 module _ (bytes : List ℕ) (before : Lent) where
-  pub kept : {o : Outcome} {after : Lent} → result o after ≡ run track bytes before → Demands bytes before o after
+  pub kept : {o : Outcome} {after : Lent} → result_of o after ≡ run track bytes before → Demands bytes before o after
   kept ran = record {
     one = demand_1 bytes before ran;
     two = demand_2 bytes before ran;
@@ -69,9 +69,9 @@ module _ (bytes : List ℕ) (before : Lent) where
     demands_settle = ⊎_elim accepted_same refused_same (same_or_not o.code 0)
 
   -- so they say all that the contract says
-  pub say_all : {o : Outcome} {after : Lent} → Demands bytes before o after → result o after ≡ run track bytes before
+  pub say_all : {o : Outcome} {after : Lent} → Demands bytes before o after → result_of o after ≡ run track bytes before
   say_all d =
       let r = run track bytes before in
       let own : Demands bytes before (record { code = r.code; place = r.place; taken = r.taken; triangles = r.triangles }) r.left = kept refl in
       let (o_is, after_is) = demands_settle d own in
-      ap₂ result o_is after_is
+      ap₂ result_of o_is after_is

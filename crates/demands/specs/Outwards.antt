@@ -22,13 +22,13 @@ use Rattle.rules.specs.Reading.Codes.{accepted_points}
 use Rattle.manifold.specs.Jobs.{job_every_step}
 use Rattle.outward.specs.Outward.{as_rising, outward_list, outward_words, faces, each_way}
 use Rattle.track.specs.declared.Outcome.{Outcome}
-use Rattle.track.specs.Outcomes.{result}
+use Rattle.track.specs.Outcomes.{result_of}
 use Rattle.track.specs.Accepted.{job_accepted, job_closed}
 use Rattle.demands.specs.Demands.{Demand2, OutwardSkin}
 use Rattle.demands.specs.Grown.{demand_2}
 use Rattle.demands.specs.Finite.{skin_finite}
 
-module _ (bytes : List ℕ) (before : Lent) {o : Outcome} {after : Lent} (ran : result o after ≡ run track bytes before) (zero_code : o.code ≡ 0) where
+module _ (bytes : List ℕ) (before : Lent) {o : Outcome} {after : Lent} (ran : result_of o after ≡ run track bytes before) (zero_code : o.code ≡ 0) where
   abbrev job : Job
   job = job_of track bytes
 

@@ -18,12 +18,12 @@ use Rattle.rules.specs.Reading.Codes.{RoomShort, accepted_header, accepted_lengt
 use Rattle.manifold.specs.Steps.{flipped, taken_earlier, refused_earlier, undoing, undoing_front, undoing_length}
 use Rattle.manifold.specs.Jobs.{job_every_step, job_five_cases, job_backwards, cut_run, undone_run}
 use Rattle.track.specs.declared.Outcome.{Outcome}
-use Rattle.track.specs.Outcomes.{result}
+use Rattle.track.specs.Outcomes.{result_of}
 use Rattle.track.specs.Accepted.{job_accepted, job_closed, answers_are, marks_are, taken_is}
 use Rattle.demands.specs.Demands.{proposal_at, CleanWith, PassesAt, OnSkinAt, marks_back, backwards, Demand3}
 use Rattle.demands.specs.Grown.{each_answer, final_is}
 
-module _ (bytes : List ℕ) (before : Lent) {o : Outcome} {after : Lent} (ran : result o after ≡ run track bytes before) (zero_code : o.code ≡ 0) where
+module _ (bytes : List ℕ) (before : Lent) {o : Outcome} {after : Lent} (ran : result_of o after ≡ run track bytes before) (zero_code : o.code ≡ 0) where
   abbrev job : Job
   job = job_of track bytes
 

@@ -12,7 +12,7 @@ use Rattle.rules.specs.Worked.Document.{whole_a, document_jobs_lem}
 use Rattle.rules.specs.Worked.Ours.{removes_d, answer_jobs_lem}
 use Rattle.rules.specs.Worked.Pointed.{rising_p, outward_p, order_jobs_lem}
 use Rattle.track.specs.declared.Outcome.{Outcome}
-use Rattle.track.specs.Outcomes.{result}
+use Rattle.track.specs.Outcomes.{result_of}
 use Rattle.demands.specs.Demands.{proposal_at, Demands}
 use Rattle.demands.specs.Kept.{say_all}
 
@@ -73,12 +73,12 @@ empty_job : (before : Lent) → (run track [] before).code ≡ 1
 empty_job before = ((code_exactly track [] before refl 0 0 (lit< tt)).1 (record { holds = (lit< tt, refl); none_before = λ j l. absurd (not-suc-le-zero l) })).0
 
 module _ (v : Version) where
-  is_run : (job : List ℕ) (before : Lent) → result (v.gives job before) (v.leaves job before) ≡ run track job before
+  is_run : (job : List ℕ) (before : Lent) → result_of (v.gives job before) (v.leaves job before) ≡ run track job before
   is_run job before = say_all job before (v.keeps job before)
 
   -- what the version gives of a job with a known result
   module _ (w : Worked) (runs : Runs w) where
-    on : result (v.gives w.bytes w.lent) (v.leaves w.bytes w.lent) ≡ w.result
+    on : result_of (v.gives w.bytes w.lent) (v.leaves w.bytes w.lent) ≡ w.result
     on = is_run w.bytes w.lent ∙ runs
 
     code_on : (v.gives w.bytes w.lent).code ≡ w.result.code

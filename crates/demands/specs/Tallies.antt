@@ -13,11 +13,11 @@ use Rattle.rules.specs.Reading.Codes.{RoomShort, accepted_header}
 use Rattle.rules.specs.Reading.Work.{work_length, work_inside, work_every, inside_tallied, every_tallied}
 use Rattle.manifold.specs.Jobs.{cut_run}
 use Rattle.track.specs.declared.Outcome.{Outcome}
-use Rattle.track.specs.Outcomes.{result}
+use Rattle.track.specs.Outcomes.{result_of}
 use Rattle.track.specs.Accepted.{job_accepted, work_is}
 use Rattle.demands.specs.Demands.{CornerTallies}
 
-module _ (bytes : List ℕ) (before : Lent) {o : Outcome} {after : Lent} (ran : result o after ≡ run track bytes before) (zero_code : o.code ≡ 0) where
+module _ (bytes : List ℕ) (before : Lent) {o : Outcome} {after : Lent} (ran : result_of o after ≡ run track bytes before) (zero_code : o.code ≡ 0) where
   abbrev job : Job
   job = job_of track bytes
 

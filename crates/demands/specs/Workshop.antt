@@ -13,7 +13,7 @@ use Rattle.rules.specs.Reading.Points.{InRange}
 use Rattle.rules.specs.Reading.Skin.{Inside, SkinTriangle}
 use Rattle.rules.specs.Reading.Outward.{listed_id, Passes, FacesOutward, AsRising}
 use Rattle.track.specs.declared.Outcome.{Outcome}
-use Rattle.track.specs.Outcomes.{result}
+use Rattle.track.specs.Outcomes.{result_of}
 use Rattle.trips.specs.Trips.{Writable, Readable}
 
 -- A number: the units divided by 16, which loses nothing.
@@ -114,5 +114,5 @@ module _ (bytes : List ℕ) (before : Lent) (file : List ℕ) (o : Outcome) (aft
     -- a refused call gives zero for both counts, and leaves the file unchanged
     pub refusal_leaves : o.code ≢ 0 → (o.taken ≡ 0) × (o.triangles ≡ 0) × (file_left ≡ file)
     -- an accepted one returns what its run returns, and the file is written
-    pub returned : o.code ≡ 0 → result o after ≡ ran
+    pub returned : o.code ≡ 0 → result_of o after ≡ ran
     pub is_written : o.code ≡ 0 → (at : ℕ → Point) × (job.points ≡ some at) × Written at

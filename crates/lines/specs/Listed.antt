@@ -16,7 +16,7 @@ use Rattle.rules.specs.Reading.Outward.{three_each}
 use Rattle.rules.specs.Reading.Codes.{run_accepted, run_code, layout_passed, accepted_header}
 use Rattle.rules.specs.Reading.Small.{triangles_small}
 use Rattle.track.specs.declared.Outcome.{Outcome}
-use Rattle.track.specs.Outcomes.{lent, result}
+use Rattle.track.specs.Outcomes.{lent, result_of}
 use Rattle.lines.specs.Listing.{answer_line, answer_lines, triangle_line, triangle_lines, done_text, refused_text, listing, zeros, listing_of}
 use Rattle.lines.specs.Put.{Put, put_front}
 
@@ -30,8 +30,8 @@ pub listed : (job : List ℕ) {text out out' : List ℕ} {n : ℕ} → text ≡ 
 listed job e p room = rw (← e) (put_front p (omega (arith, p.behind)))
 
 module _ (job : List ℕ) {o : Outcome} {answers marks triangles work : List ℕ}
-    (is : result o (lent answers marks triangles work) ≡ run track job (lent (replicate 1024 0) (replicate 2048 0) (replicate 12288 0) (replicate 10240 0))) where
-  is_run : result o (lent answers marks triangles work) ≡ run track job zeros
+    (is : result_of o (lent answers marks triangles work) ≡ run track job (lent (replicate 1024 0) (replicate 2048 0) (replicate 12288 0) (replicate 10240 0))) where
+  is_run : result_of o (lent answers marks triangles work) ≡ run track job zeros
   unfolding zeros
   is_run = is
 

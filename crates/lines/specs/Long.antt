@@ -11,7 +11,7 @@ use Rattle.rules.specs.Laws.Truth.{true_or_false, is_false}
 use Rattle.rules.specs.Laws.Words.{word_part}
 use Rattle.rules.specs.Laws.Job.{points_few}
 use Rattle.rules.specs.Reading.Codes.{limits_read, laid_out_reads}
-use Rattle.track.specs.Outcomes.{refusal, result}
+use Rattle.track.specs.Outcomes.{refusal, result_of}
 use Rattle.track.specs.Headers.{header_refused}
 use Rattle.lines.specs.Listing.{zeros, listing_of}
 
@@ -44,7 +44,7 @@ module _ (job : List ℕ) (long : 65536 ≤ length job) where
       go true e = omega arith
       go false e = omega arith
 
-  long_run : (buffers : Lent) → result (refusal (long_verdict (header_of job))) buffers ≡ run track job buffers
+  long_run : (buffers : Lent) → result_of (refusal (long_verdict (header_of job))) buffers ≡ run track job buffers
   long_run buffers = header_refused job buffers verdict_is some_code refl
 
   -- it is refused
@@ -65,7 +65,7 @@ module _ (n : ℕ) (input : List ℕ) (large : 65536 ≤ n) (long : n ≤ length
   pub run_enough : (buffers : Lent) → run track (take n input) buffers ≡ run track input buffers
   run_enough buffers =
       sym (long_run (take n input) front_long buffers)
-      ∙ ap (λ (h : Header). result (refusal (long_verdict h)) buffers) (same_header n input (omega arith))
+      ∙ ap (λ (h : Header). result_of (refusal (long_verdict h)) buffers) (same_header n input (omega arith))
       ∙ long_run input (omega arith) buffers
 
   pub front_enough : listing_of (take n input) ≡ listing_of input

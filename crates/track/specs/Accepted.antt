@@ -8,9 +8,9 @@ use Rattle.rules.specs.Job.{track, Job, job_of, answers_of, final_of, listed_of,
 use Rattle.rules.specs.Reading.Closed.{Closed}
 use Rattle.rules.specs.Reading.Codes.{run_accepted, run_code, accepted_closed}
 use Rattle.track.specs.declared.Outcome.{Outcome}
-use Rattle.track.specs.Outcomes.{result}
+use Rattle.track.specs.Outcomes.{result_of}
 
-module _ (bytes : List ℕ) (before : Lent) {o : Outcome} {after : Lent} (ran : result o after ≡ run track bytes before) (zero_code : o.code ≡ 0) where
+module _ (bytes : List ℕ) (before : Lent) {o : Outcome} {after : Lent} (ran : result_of o after ≡ run track bytes before) (zero_code : o.code ≡ 0) where
   abbrev job : Job
   job = job_of track bytes
 
@@ -20,7 +20,7 @@ module _ (bytes : List ℕ) (before : Lent) {o : Outcome} {after : Lent} (ran : 
   pub job_closed : Closed job.table job.ids
   job_closed = accepted_closed track bytes before job_accepted
 
-  is : result o after ≡ accepted job before
+  is : result_of o after ≡ accepted job before
   is = ran ∙ run_accepted track bytes before (sym (run_code track bytes before) ∙ job_accepted)
 
   pub answers_are : after.answers ≡ written (answers_of job) before.answers

@@ -16,7 +16,7 @@ use Rattle.job.specs.declared.Reading.{Reading}
 use Rattle.job.specs.declared.Reading.TheVariants.{Laid}
 use Rattle.job.specs.Reading.{meant, header, verdict_of, header_in, laid_header}
 use Rattle.track.specs.declared.Outcome.{Outcome}
-use Rattle.track.specs.Outcomes.{lent, result, refusal}
+use Rattle.track.specs.Outcomes.{lent, result_of, refusal}
 use Rattle.track.specs.Stages as stages
 use Rattle.track.specs.Stages.{decided, run_decided, from_table, with_rest, front_decides}
 
@@ -24,12 +24,12 @@ module _ (job : List ℕ) (buffers : Lent) where
   abbrev rest : List Test
   rest = section_tests (job_of track job)
 
-  early : {v : Verdict} → verdict_on track job buffers ≡ v → v.code ≢ 0 → leb v.code 4 ≡ true → result (refusal v) buffers ≡ run track job buffers
+  early : {v : Verdict} → verdict_on track job buffers ≡ v → v.code ≢ 0 → leb v.code 4 ≡ true → result_of (refusal v) buffers ≡ run track job buffers
   unfolding decided refused
   early {v} e ne small = sym (sym (run_decided job buffers) ∙ rw (e, ne_eqb v.code 0 ne, small))
 
   -- a header that is not laid out
-  pub header_refused : {v : Verdict} → v ≡ first_match 1 (layout_tests track job) → v.code ≢ 0 → {o : Outcome} → o ≡ refusal v → result o buffers ≡ run track job buffers
+  pub header_refused : {v : Verdict} → v ≡ first_match 1 (layout_tests track job) → v.code ≢ 0 → {o : Outcome} → o ≡ refusal v → result_of o buffers ≡ run track job buffers
   unfolding verdict_on job_tests layout_tests
   header_refused {v} is ne told =
       let small = match_below 1 (lit< tt) (layout_tests track job) in
@@ -51,7 +51,7 @@ module _ (job : List ℕ) (buffers : Lent) where
       unfolding room_short
       short_is = told_short ∙ ap (λ (x : Header). short_rooms track (meant x) (length buffers.answers) (length buffers.final_marks) (length buffers.triangles) (length buffers.work)) facts.0
 
-      pub room_refused : short ≡ true → {o : Outcome} → o ≡ refusal (record { code = 4; place = 0 }) → result o buffers ≡ run track job buffers
+      pub room_refused : short ≡ true → {o : Outcome} → o ≡ refusal (record { code = 4; place = 0 }) → result_of o buffers ≡ run track job buffers
       unfolding room_tests given found
       room_refused on told =
           rw told (early {v = record { code = 4; place = 0 }} (from_room ∙ match_here 4 _ _ 0 (ap (λ (b : Bool). found b 0) (sym short_is ∙ on))) (λ e. omega arith) refl)

@@ -9,8 +9,8 @@ abbrev pub lent : List ℕ → List ℕ → List ℕ → List ℕ → Lent
 lent answers final_marks triangles work = record { answers = answers; final_marks = final_marks; triangles = triangles; work = work }
 
 -- what was returned, and the buffers as left
-abbrev pub result : Outcome → Lent → Result
-result o left = record { code = o.code; place = o.place; taken = o.taken; triangles = o.triangles; left = left }
+abbrev pub result_of : Outcome → Lent → Result
+result_of o left = record { code = o.code; place = o.place; taken = o.taken; triangles = o.triangles; left = left }
 
 -- a refusal has zero for both counts
 abbrev pub refusal : Verdict → Outcome

@@ -22,7 +22,7 @@ use Rattle.table.specs.declared.Broken.TheVariants.{Nothing, Row, Order, Triangl
 use Rattle.table.specs.Rows.{table_in}
 use Rattle.table.specs.Closed.{verdict_of, left_of}
 use Rattle.track.specs.declared.Outcome.{Outcome}
-use Rattle.track.specs.Outcomes.{lent, result, refusal}
+use Rattle.track.specs.Outcomes.{lent, result_of, refusal}
 use Rattle.track.specs.Cut.{counted, marks_is, points_is, proposals_counted, job_is}
 use Rattle.track.specs.Stages.{decided, job_in, from_table, later_tests, from_marks, late, all_zero, Ready, Laid}
 
@@ -89,7 +89,7 @@ module _ {h : Header} {job : List ℕ} {buffers : Lent} (l : Laid h job buffers)
     same_code : o.code ≡ (verdict_of broken).code
     same_code = ap (λ (x : Outcome). x.code) told
 
-    pub table_refused : o.code ≢ 0 → result o (lent buffers.answers buffers.final_marks buffers.triangles work) ≡ from_table h (job_of track job) buffers
+    pub table_refused : o.code ≢ 0 → result_of o (lent buffers.answers buffers.final_marks buffers.triangles work) ≡ from_table h (job_of track job) buffers
     unfolding decided refused
     table_refused ne =
         rw (← (job_is job l.is l.long ea eb ec ed))

@@ -33,7 +33,7 @@ use Rattle.tallies.specs.Counted.{Listed}
 use Rattle.tallies.specs.Area.{Area, area_ground}
 use Rattle.growth.specs.Answers.{proposals_in}
 use Rattle.track.specs.declared.Outcome.{Outcome}
-use Rattle.track.specs.Outcomes.{lent, result, refusal}
+use Rattle.track.specs.Outcomes.{lent, result_of, refusal}
 
 -- the verdict decides: accepted, or refused
 unfoldable pub decided : rules.Header → Verdict → Job → Lent → Result
@@ -118,7 +118,7 @@ module _ (h : Header) (job : Job) (buffers : Lent) {o : Outcome} (told : o ≡ r
   same_code = ap (λ (x : Outcome). x.code) told
 
   pub marks_refused : length buffers.work ≡ work_room track (meant h) → {work : List ℕ} → o.code ≢ 0 → work ≡ replicate (length buffers.work) 0
-      → result o (lent buffers.answers buffers.final_marks buffers.triangles work) ≡ from_marks h job buffers
+      → result_of o (lent buffers.answers buffers.final_marks buffers.triangles work) ≡ from_marks h job buffers
   unfolding decided refused
   marks_refused room ne ew =
       let off : (first_match 10 tests).code ≢ 0 = λ z. ne (same_code ∙ z) in
@@ -287,7 +287,7 @@ pub grown : {h : Header} {rows marks proposals points : List ℕ} {buffers : Len
     → (taken_count ≡ taken (answers_to (table_in rows) marks (proposals_in proposals))) × (answers ≡ written (answers_to (table_in rows) marks (proposals_in proposals)) buffers.answers)
     × (final ≡ written (final_marks (table_in rows) marks (proposals_in proposals)) buffers.final_marks) × (work ≡ work_area (table_in rows) h.ids (final_marks (table_in rows) marks (proposals_in proposals)))
     → (count ≡ length (front_skin h rows points final)) × (triangles ≡ written (flatten (front_skin h rows points final)) buffers.triangles)
-    → result (record { code = 0; place = 0; taken = taken_count; triangles = count }) (lent answers final triangles work) ≡ accepted (job_in h rows marks proposals points) buffers
+    → result_of (record { code = 0; place = 0; taken = taken_count; triangles = count }) (lent answers final triangles work) ≡ accepted (job_in h rows marks proposals points) buffers
 unfolding accepted
 grown {h = h} {rows = rows} {marks = marks} {proposals = proposals} {buffers = buffers} g {final = final} (et, ea, ef, ew) (ec, el) = rw (et, ea, ec, el, front, ef, ew, area_whole g ms)
   where

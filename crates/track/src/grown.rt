@@ -1,14 +1,14 @@
 // An accepted job: its rows are counted at their ids, its proposals are answered and its skin is listed. Code 0.
 ghost use Rattle.std.specs.Prelude.{◌≡◌, ◌*◌, ◌/◌, ◌≤◌, length};
 ghost use mathlib.Core.List.{flatten};
-ghost use Rattle.rules.specs.Proposals.{answers_to, final_marks, taken};
+ghost use Rattle.rules.specs.Proposals.{answers_to, final_marks as marks_grown, taken};
 ghost use Rattle.rules.specs.Work.{work_area};
 ghost use Rattle.rules.specs.Job.{written, accepted};
 ghost use Rattle.table.specs.Rows.{table_in, rows_in};
 ghost use Rattle.table.specs.Ground.{Ground};
 ghost use Rattle.tallies.specs.Area.{Area};
 ghost use Rattle.growth.specs.Answers.{proposals_in};
-ghost use Rattle.track.specs.Outcomes.{lent, result};
+ghost use Rattle.track.specs.Outcomes.{lent, result_of};
 ghost use Rattle.track.specs.Stages.{job_in, Ready, OnGrid, front_skin};
 
 use crate::Outcome;
@@ -20,7 +20,7 @@ use tallies::count_rows;
 
 fn copy(from: &[u8], to: &mut [u8])
     requires { length from.now ≤ length to.old }
-    ensures* { λ _. ⌜ to.new ≡ written from.now to.old ⌝ }
+    ensures { to.new ≡ written from.now to.old }
 {
     let mut i = 0;
     while i < from.len() {
@@ -40,10 +40,10 @@ fn answer_copied(
     work: &mut [u32],
 ) -> usize
     requires { Area rows.now work.old marks.now ids × (length proposals.now / 8 ≤ length answers.old) × (rows_in rows.now ≤ length final_marks.old) }
-    ensures* { λ r. ⌜ (r ≡ taken (answers_to (table_in rows.now) marks.now (proposals_in proposals.now)))
+    ensures { (result ≡ taken (answers_to (table_in rows.now) marks.now (proposals_in proposals.now)))
         × (answers.new ≡ written (answers_to (table_in rows.now) marks.now (proposals_in proposals.now)) answers.old)
-        × (final_marks.new ≡ written (final_marks (table_in rows.now) marks.now (proposals_in proposals.now)) final_marks.old)
-        × (work.new ≡ work_area (table_in rows.now) ids (final_marks (table_in rows.now) marks.now (proposals_in proposals.now))) ⌝ }
+        × (final_marks.new ≡ written (marks_grown (table_in rows.now) marks.now (proposals_in proposals.now)) final_marks.old)
+        × (work.new ≡ work_area (table_in rows.now) ids (marks_grown (table_in rows.now) marks.now (proposals_in proposals.now))) }
 {
     copy(marks, final_marks);
     let n = marks.len();
@@ -60,8 +60,8 @@ fn list_front(
     work: &[u32],
 ) -> usize
     requires { Ground rows.now work.now h.ids × (rows_in rows.now ≤ length final_marks.now) × (6 * rows_in rows.now ≤ length triangles.old) × OnGrid h points.now }
-    ensures* { λ r. ⌜ (r ≡ length (front_skin h rows.now points.now final_marks.now))
-        × (triangles.new ≡ written (flatten (front_skin h rows.now points.now final_marks.now)) triangles.old) ⌝ }
+    ensures { (result ≡ length (front_skin h rows.now points.now final_marks.now))
+        × (triangles.new ≡ written (flatten (front_skin h rows.now points.now final_marks.now)) triangles.old) }
 {
     let n = row_count(rows);
     let outward = h.asks_outward();
@@ -88,9 +88,9 @@ pub(crate) fn grow(
     work: &mut [u32],
 ) -> Outcome
     requires { Ready h rows.now marks.now proposals.now points.now (lent answers.old final_marks.old triangles.old work.old) × OnGrid h points.now }
-    ensures* { λ r. ⌜ result r (lent answers.new final_marks.new triangles.new work.new)
+    ensures { result_of result (lent answers.new final_marks.new triangles.new work.new)
         ≡ accepted (job_in h rows.now marks.now proposals.now points.now)
-        (lent answers.old final_marks.old triangles.old work.old) ⌝ }
+        (lent answers.old final_marks.old triangles.old work.old) }
 {
     let ids = h.ids;
     count_rows(rows, marks, ids, work);

@@ -12,7 +12,7 @@ ghost use Rattle.table.specs.Ground.{Ground};
 ghost use Rattle.rings.specs.Far.{Marked};
 ghost use Rattle.marks.specs.Start as start;
 ghost use Rattle.points.specs.Placed as placed;
-ghost use Rattle.track.specs.Outcomes.{refusal, lent, result};
+ghost use Rattle.track.specs.Outcomes.{refusal, lent, result_of};
 ghost use Rattle.track.specs.Stages.{job_in, later_tests, from_table, from_marks, Ready, Laid};
 
 use grown::grow;
@@ -31,7 +31,7 @@ pub struct Outcome {
 }
 
 fn refused(code: usize, place: usize) -> Outcome
-    ensures* { λ r. ⌜ r ≡ refusal (record { code = code; place = place }) ⌝ }
+    ensures { result ≡ refusal (record { code = code; place = place }) }
 {
     Outcome {
         code,
@@ -43,7 +43,7 @@ fn refused(code: usize, place: usize) -> Outcome
 
 // Codes 5 to 9, or 0.
 fn of_table(broken: Broken) -> Outcome
-    ensures* { λ r. ⌜ r ≡ refusal (closed.verdict_of broken) ⌝ }
+    ensures { result ≡ refusal (closed.verdict_of broken) }
 {
     match broken {
         Broken::Nothing => refused(0, 0),
@@ -57,7 +57,7 @@ fn of_table(broken: Broken) -> Outcome
 
 // Codes 10 to 12, or 0.
 fn of_marks(unfit: Unfit) -> Outcome
-    ensures* { λ r. ⌜ r ≡ refusal (start.verdict_of unfit) ⌝ }
+    ensures { result ≡ refusal (start.verdict_of unfit) }
 {
     match unfit {
         Unfit::Nothing => refused(0, 0),
@@ -69,7 +69,7 @@ fn of_marks(unfit: Unfit) -> Outcome
 
 // Codes 13 to 15, or 0.
 fn of_points(misplaced: Misplaced) -> Outcome
-    ensures* { λ r. ⌜ r ≡ refusal (placed.verdict_of misplaced) ⌝ }
+    ensures { result ≡ refusal (placed.verdict_of misplaced) }
 {
     match misplaced {
         Misplaced::Nothing => refused(0, 0),
@@ -82,7 +82,7 @@ fn of_points(misplaced: Misplaced) -> Outcome
 // The points, where there are any.
 fn look_at_points(h: Header, rows: &[u8], neighbours: &[u32], points: &[u8]) -> Outcome
     requires { Ground rows.now neighbours.now h.ids × (h.ids ≤ most_ids) × (length points.now ≡ point_bytes track (meant h)) }
-    ensures* { λ r. ⌜ r ≡ refusal (first_match 13 (point_tests (table_in rows.now) h.ids (points_of track (meant h) points.now))) ⌝ }
+    ensures { result ≡ refusal (first_match 13 (point_tests (table_in rows.now) h.ids (points_of track (meant h) points.now))) }
 {
     if h.has_points() {
         return of_points(check_points(rows, neighbours, points, h.ids));
@@ -99,7 +99,7 @@ fn look_at_marks_and_points(
     points: &[u8],
 ) -> Outcome
     requires { Marked rows.now neighbours.now marks.now h.ids × (length points.now ≡ point_bytes track (meant h)) }
-    ensures* { λ r. ⌜ r ≡ refusal (first_match 10 (later_tests (table_in rows.now) h.ids marks.now (points_of track (meant h) points.now))) ⌝ }
+    ensures { result ≡ refusal (first_match 10 (later_tests (table_in rows.now) h.ids marks.now (points_of track (meant h) points.now))) }
 {
     let found = of_marks(check_marks(rows, neighbours, marks, h.ids));
     if found.code != 0 {
@@ -121,9 +121,9 @@ fn run_closed(
     work: &mut [u32],
 ) -> Outcome
     requires { Ready h rows.now marks.now proposals.now points.now (lent answers.old final_marks.old triangles.old work.old) }
-    ensures* { λ r. ⌜ result r (lent answers.new final_marks.new triangles.new work.new)
+    ensures { result_of result (lent answers.new final_marks.new triangles.new work.new)
         ≡ from_marks h (job_in h rows.now marks.now proposals.now points.now)
-        (lent answers.old final_marks.old triangles.old work.old) ⌝ }
+        (lent answers.old final_marks.old triangles.old work.old) }
 {
     let found = look_at_marks_and_points(h, rows, work, marks, points);
     if found.code != 0 {
@@ -153,9 +153,9 @@ fn run_laid(
     work: &mut [u32],
 ) -> Outcome
     requires { Laid h job.now (lent answers.old final_marks.old triangles.old work.old) }
-    ensures* { λ r. ⌜ result r (lent answers.new final_marks.new triangles.new work.new)
+    ensures { result_of result (lent answers.new final_marks.new triangles.new work.new)
         ≡ from_table h (job_of track job.now)
-        (lent answers.old final_marks.old triangles.old work.old) ⌝ }
+        (lent answers.old final_marks.old triangles.old work.old) }
 {
     let rows_at = h.rows_at();
     let marks_at = h.marks_at();
@@ -190,8 +190,8 @@ pub fn run(
     triangles: &mut [u32],
     work: &mut [u32],
 ) -> Outcome
-    ensures* { λ r. ⌜ result r (lent answers.new final_marks.new triangles.new work.new)
-        ≡ run track job.now (lent answers.old final_marks.old triangles.old work.old) ⌝ }
+    ensures { result_of result (lent answers.new final_marks.new triangles.new work.new)
+        ≡ run track job.now (lent answers.old final_marks.old triangles.old work.old) }
 {
     match read(job) {
         Reading::Short => refused(1, 0),

@@ -11,7 +11,7 @@ use Rattle.stl.specs.Reading as reading
 use Rattle.stl.specs.declared.writer.Writing.{Writing}
 use Rattle.stl.specs.declared.reader.Reading.{Reading}
 use Rattle.track.specs.declared.Outcome.{Outcome}
-use Rattle.track.specs.Outcomes.{result}
+use Rattle.track.specs.Outcomes.{result_of}
 use Rattle.track_stl.specs.Ran as ran
 use Rattle.track_c.specs.Small.{SmallResult, run_small, skin_small, write_place_small}
 
@@ -53,7 +53,7 @@ pub record RunFits (o : Outcome) : Type 0 where
 abbrev pub WriteFits : Writing → Type 0
 WriteFits r = (writing.verdict_of r).place < 4294967296
 
-small_fits : {o : Outcome} {left : Lent} {r : Result} → result o left ≡ r → SmallResult r → RunFits o
+small_fits : {o : Outcome} {left : Lent} {r : Result} → result_of o left ≡ r → SmallResult r → RunFits o
 small_fits e s = record {
   code = omega (arith, ap (λ (r : Result). r.code) e, s.code);
   place = omega (arith, ap (λ (r : Result). r.place) e, s.place);
@@ -63,7 +63,7 @@ small_fits e s = record {
 
 -- ---- each call
 
-module _ (job : List ℕ) (lent : Lent) {o : Outcome} {left : Lent} (is : result o left ≡ run track job lent) where
+module _ (job : List ℕ) (lent : Lent) {o : Outcome} {left : Lent} (is : result_of o left ≡ run track job lent) where
   pub run_fits : RunFits o
   run_fits = small_fits is (run_small job lent)
 

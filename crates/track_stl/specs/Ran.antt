@@ -34,14 +34,14 @@ use Rattle.table.specs.Rows.{rows_in, table_in}
 use Rattle.table.specs.Ground.{Ground}
 use Rattle.points.specs.Grid.{Grid}
 use Rattle.track.specs.declared.Outcome.{Outcome}
-use Rattle.track.specs.Outcomes.{result}
+use Rattle.track.specs.Outcomes.{result_of}
 use Rattle.track.specs.Accepted.{job_accepted, job_closed, marks_are, triangles_are, work_is, triangles_is}
 use Rattle.track.specs.Cut.{counted, points_is, job_is}
 use Rattle.track_stl.specs.Skins.{listed_as}
 
 -- an outcome, the four buffers as left, and the file as left
 abbrev pub told : Outcome → Lent → List ℕ → Exported
-told o left file = record { result = result o left; file = file }
+told o left file = record { result = result_of o left; file = file }
 
 -- What a run that was accepted leaves: its header, rows that keep rules 5 to 7 with the neighbour list at the front of work, the final
 -- marks and the skin in the order asked for at the fronts of their buffers, and where there are points, each in range.
@@ -151,29 +151,29 @@ module _ {h : Header} (job : List ℕ) (is : h ≡ header job) (o : Outcome) (le
   abbrev verdict : Verdict
   verdict = first_match 20 (file_tests track job o.triangles (length file))
 
-  by : {v : Verdict} → verdict ≡ v → {r : Exported} → r ≡ cond (eqb v.code 0) (record { result = result o left; file = written (skin_file (job_of track job)) file }) (record { result = unwritten v left; file = file })
-      → r ≡ exported track job (result o left) file
+  by : {v : Verdict} → verdict ≡ v → {r : Exported} → r ≡ cond (eqb v.code 0) (record { result = result_of o left; file = written (skin_file (job_of track job)) file }) (record { result = unwritten v left; file = file })
+      → r ≡ exported track job (result_of o left) file
   unfolding exported
-  by e same = same ∙ ap (λ (v : Verdict). cond (eqb v.code 0) (record { result = result o left; file = written (skin_file (job_of track job)) file }) (record { result = unwritten v left; file = file })) (sym e)
+  by e same = same ∙ ap (λ (v : Verdict). cond (eqb v.code 0) (record { result = result_of o left; file = written (skin_file (job_of track job)) file }) (record { result = unwritten v left; file = file })) (sym e)
 
   points_told : has_points track (meant h) ≡ has_points track (header_of job)
   points_told = ap (λ (x : Header). has_points track (meant x)) is
 
   -- 20
-  pub no_points : has_points track (meant h) ≡ false → {r : Outcome} → r ≡ record { code = 20; place = 0; taken = 0; triangles = 0 } → told r left file ≡ exported track job (result o left) file
+  pub no_points : has_points track (meant h) ≡ false → {r : Outcome} → r ≡ record { code = 20; place = 0; taken = 0; triangles = 0 } → told r left file ≡ exported track job (result_of o left) file
   unfolding file_tests given found unwritten
   no_points off e = ap (λ (r : Outcome). told r left file) e ∙ by (match_here 20 _ _ 0 (rw (sym points_told ∙ off))) refl
 
   module _ (on : has_points track (meant h) ≡ true) where
     -- 21
-    pub short_room : length file < file_length o.triangles → {r : Outcome} → r ≡ record { code = 21; place = 0; taken = 0; triangles = 0 } → told r left file ≡ exported track job (result o left) file
+    pub short_room : length file < file_length o.triangles → {r : Outcome} → r ≡ record { code = 21; place = 0; taken = 0; triangles = 0 } → told r left file ≡ exported track job (result_of o left) file
     unfolding file_tests given found unwritten
     short_room l e =
         ap (λ (r : Outcome). told r left file) e
         ∙ by (match_later 20 _ _ (rw (sym points_told ∙ on)) ∙ match_here 21 _ _ 0 (rw (lt-ltb (length file) (file_length o.triangles) l))) refl
 
     -- 0
-    pub in_file : file_length o.triangles ≤ length file → {after : List ℕ} → after ≡ written (skin_file (job_of track job)) file → told o left after ≡ exported track job (result o left) file
+    pub in_file : file_length o.triangles ≤ length file → {after : List ℕ} → after ≡ written (skin_file (job_of track job)) file → told o left after ≡ exported track job (result_of o left) file
     unfolding file_tests given found
     in_file l e =
         ap (told o left) e
@@ -181,16 +181,16 @@ module _ {h : Header} (job : List ℕ) (is : h ≡ header job) (o : Outcome) (le
 
 -- ---- the run
 
-module _ (job : List ℕ) (before : Lent) {o : Outcome} {after : Lent} (ran : result o after ≡ run track job before) (file : List ℕ) where
+module _ (job : List ℕ) (before : Lent) {o : Outcome} {after : Lent} (ran : result_of o after ≡ run track job before) (file : List ℕ) where
   pub run_refused : o.code ≢ 0 → told o after file ≡ write_skin track job before file
   unfolding write_skin
   run_refused ne = rw (← ran, ne_eqb o.code 0 ne)
 
-  pub run_accepted : o.code ≡ 0 → {r : Exported} → r ≡ exported track job (result o after) file → r ≡ write_skin track job before file
+  pub run_accepted : o.code ≡ 0 → {r : Exported} → r ≡ exported track job (result_of o after) file → r ≡ write_skin track job before file
   unfolding write_skin
   run_accepted z e = e ∙ sym (rw (← ran, z))
 
-module _ (job : List ℕ) (before : Lent) {o : Outcome} {after : Lent} (run_is : result o after ≡ run track job before) (zero_code : o.code ≡ 0) where
+module _ (job : List ℕ) (before : Lent) {o : Outcome} {after : Lent} (run_is : result_of o after ≡ run track job before) (zero_code : o.code ≡ 0) where
   abbrev the : Job
   the = job_of track job
 

@@ -11,7 +11,7 @@ ghost use Rattle.job.specs.Reading.{meant};
 ghost use Rattle.table.specs.Rows.{rows_in};
 ghost use Rattle.table.specs.Ground.{Ground};
 ghost use Rattle.points.specs.Grid.{Grid};
-ghost use Rattle.track.specs.Outcomes.{lent, result};
+ghost use Rattle.track.specs.Outcomes.{lent, result_of};
 ghost use Rattle.track_stl.specs.Skins.{listed_as};
 ghost use Rattle.track_stl.specs.Ran.{Ran, told};
 
@@ -22,7 +22,7 @@ use track::{Outcome, run};
 
 // A file that is refused: zero for both counts.
 fn refused(code: usize) -> Outcome
-    ensures* { λ r. ⌜ r ≡ record { code = code; place = 0; taken = 0; triangles = 0 } ⌝ }
+    ensures { result ≡ record { code = code; place = 0; taken = 0; triangles = 0 } }
 {
     Outcome {
         code,
@@ -46,8 +46,8 @@ fn put_listed(
     requires { Ground rows.now work.now ids × Grid points.now ids × (rows_in rows.now ≤ length marks.now) × (6 * rows_in rows.now ≤ length triangles.old)
         × (triangles.old ≡ written (flatten (listed_as asked rows.now marks.now points.now)) triangles.old)
         × (file_length (length (listed_as true rows.now marks.now points.now)) ≤ length file.old) }
-    ensures* { λ _. ⌜ (triangles.new ≡ triangles.old)
-        × (file.new ≡ written (file_of (corners_of (point_in points.now) (listed_as true rows.now marks.now points.now))) file.old) ⌝ }
+    ensures { (triangles.new ≡ triangles.old)
+        × (file.new ≡ written (file_of (corners_of (point_in points.now) (listed_as true rows.now marks.now points.now))) file.old) }
 {
     let count = list_skin(rows, work, marks, points, ids, true, triangles);
     put_triangles(points, ids, triangles, count, file);
@@ -65,7 +65,7 @@ fn put_skin(
 )
     requires { Ran h job.now final_marks.now triangles.old work.now × (has_points track (meant h) ≡ true)
         × (file_length (length (outward_skin (job_of track job.now))) ≤ length file.old) }
-    ensures* { λ _. ⌜ (triangles.new ≡ triangles.old) × (file.new ≡ written (skin_file (job_of track job.now)) file.old) ⌝ }
+    ensures { (triangles.new ≡ triangles.old) × (file.new ≡ written (skin_file (job_of track job.now)) file.old) }
 {
     let rows_at = h.rows_at();
     let marks_at = h.marks_at();
@@ -94,8 +94,8 @@ fn write_ran(
     file: &mut [u8],
 ) -> Outcome
     requires { Ran h job.now final_marks.now triangles.old work.now × (ran.triangles ≡ length (outward_skin (job_of track job.now))) }
-    ensures* { λ r. ⌜ (triangles.new ≡ triangles.old)
-        × ((left : Lent) → told r left file.new ≡ exported track job.now (result ran left) file.old) ⌝ }
+    ensures { (triangles.new ≡ triangles.old)
+        × ((left : Lent) → told result left file.new ≡ exported track job.now (result_of ran left) file.old) }
 {
     if !h.has_points() {
         return refused(20);
@@ -116,8 +116,8 @@ pub fn write_skin(
     work: &mut [u32],
     file: &mut [u8],
 ) -> Outcome
-    ensures* { λ r. ⌜ told r (lent answers.new final_marks.new triangles.new work.new) file.new
-        ≡ write_skin track job.now (lent answers.old final_marks.old triangles.old work.old) file.old ⌝ }
+    ensures { told result (lent answers.new final_marks.new triangles.new work.new) file.new
+        ≡ write_skin track job.now (lent answers.old final_marks.old triangles.old work.old) file.old }
 {
     let ran = run(job, answers, final_marks, triangles, work);
     if ran.code != 0 {

@@ -24,7 +24,7 @@ use Rattle.rules.specs.Reading.Room.{skin_words}
 use Rattle.rules.specs.Reading.Outward.{three_each}
 use Rattle.rules.specs.Reading.Small.{triangles_small}
 use Rattle.track.specs.declared.Outcome.{Outcome}
-use Rattle.track.specs.Outcomes.{lent, result}
+use Rattle.track.specs.Outcomes.{lent, result_of}
 use Rattle.track_stl.specs.Corners.{three_units}
 use Rattle.track_stl.specs.Ran.{told, triangles_told}
 use Rattle.lines.specs.Listing.{line, word_refused, refused_text, zeros}
@@ -130,7 +130,7 @@ module _ (job file : List ℕ) (room : 204884 ≡ length file) {o : Outcome} {le
   unfolding zeros
   here = is
 
-  answer_is : result o left ≡ skin_answer job
+  answer_is : result_of o left ≡ skin_answer job
   unfolding skin_answer
   answer_is =
       ap (λ (e : Exported). e.result) here
@@ -147,7 +147,7 @@ module _ (job file : List ℕ) (room : 204884 ≡ length file) {o : Outcome} {le
     its : Wrote track job zeros file
     its = wrote track job zeros file (sym (ap (λ (e : Exported). e.result.code) here) ∙ z)
 
-    run_is : result o left ≡ run track job zeros
+    run_is : result_of o left ≡ run track job zeros
     run_is = ap (λ (e : Exported). e.result) (here ∙ its.is)
 
     pub few : o.triangles ≤ most_facets
