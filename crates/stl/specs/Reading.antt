@@ -12,7 +12,8 @@ use Rattle.rules.specs.Stl.{count_in, ill_sized, headed, faulty, first_fault, no
 use Rattle.rules.specs.Laws.Truth.{not_both}
 use Rattle.rules.specs.Laws.First.{match_here, match_later, match_end}
 use Rattle.rules.specs.Laws.Below.{lowest_is}
-use Rattle.trips.specs.Readable.{Readable, read_exactly, read_whole, read_verdict}
+use Rattle.trips.specs.Readable.{Readable}
+use Rattle.trips.proofs.Readable.{read_exactly, read_whole, read_verdict}
 use Rattle.stl.specs.Faults.{facet_fault, fault_told}
 use Rattle.stl.specs.declared.reader.Fault.{Fault}
 use Rattle.stl.specs.declared.reader.Fault.TheVariants as fault

@@ -8,7 +8,8 @@ use Rattle.rules.specs.Points.{in_range}
 use Rattle.rules.specs.Job.{written}
 use Rattle.rules.specs.Stl.{most_facets, file_length, facets_of, file_of, write_tests, Wrote, write_facets}
 use Rattle.rules.specs.Reading.Points.{range_reads}
-use Rattle.trips.specs.Writable.{Writable, wrote_exactly}
+use Rattle.trips.specs.Writable.{Writable}
+use Rattle.trips.proofs.Writable.{wrote_exactly}
 use Rattle.stl.specs.Corners.{Numbers, corner_in, grid_numbers}
 use Rattle.stl.specs.declared.writer.Writing.{Writing}
 use Rattle.stl.specs.declared.writer.Writing.TheVariants.{Done, Facets, Number, Room}

@@ -1,7 +1,5 @@
--- Numbers off the grid and on it, by their bits, and the file of the empty list. Below this module the three calls of request (vi), worked:
--- `Worked.Written` the facet writer, `Worked.Read` the reader, `Worked.Skin` the job's writer.
-pub mod Written
-pub mod Read
+-- Numbers off the grid and on it, by their bits, and the file of the empty list. The three calls of request (vi), worked:
+-- `proofs.Written` the facet writer, `proofs.Read` the reader, `Worked.Skin` the job's writer.
 pub mod Skin
 use Rattle.std.specs.Prelude.{◌≡◌, refl, Bool, true, false, not, ◌&&◌, List, [], ◌∷◌, ◌++◌, ℕ, zero, suc, ◌<◌, eqb, ℤ, pos, neg_ℤ, length, get_or, replicate}
 use Rattle.std.proofs.Common.{ap, not-suc-le-zero, le_of_suc-le-suc, arith}

@@ -12,9 +12,9 @@ use Rattle.rules.specs.Job.{written}
 use Rattle.rules.specs.Stl.{most_facets, file_length, header, facets_of, file_of, Wrote, count_in, ill_sized, headed, blank, bits_at, faulty, first_fault, first_off, not_zero, read_tests, unit_at, units_in, handed_back, read_file, write_facets}
 use Rattle.rules.specs.Laws.Truth.{or_first, or_second}
 use Rattle.rules.specs.Laws.First.{match_here}
-use Rattle.trips.specs.Trips.{write_read}
+use Rattle.trips.proofs.Trips.{write_read}
 use Rattle.trips.specs.Worked.{top, four, minus, minus_zero_off, quiet_nan_off, signalling_nan_off, infinity_off, minus_infinity_off, half_unit_off, past_most_off, denormal_off, zero_read, one_read, minus_one_read, most_read}
-use Rattle.trips.specs.Worked.Written.{zeros, one_facet, one_facet_file, one_facet_file_lem, written_lists, most_count, most_written}
+use Rattle.trips.proofs.Written.{zeros, one_facet, one_facet_file, one_facet_file_lem, written_lists, most_count, most_written}
 
 -- ---- a call of these bytes and these lent units
 

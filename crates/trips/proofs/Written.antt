@@ -10,7 +10,7 @@ use Rattle.rules.specs.Job.{written}
 use Rattle.rules.specs.Stl.{most_facets, metres, bits_of, header, facet_bytes, facets_of, file_of, write_tests, write_facets}
 use Rattle.rules.specs.Laws.First.{match_here}
 use Rattle.rules.specs.Reading.Points.{InRange, range_reads}
-use Rattle.trips.specs.Writable.{wrote_whole}
+use Rattle.trips.proofs.Writable.{wrote_whole}
 use Rattle.trips.specs.Worked.{top, four, minus, empty_file}
 
 -- ---- a call of these units and these lent bytes

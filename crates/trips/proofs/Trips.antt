@@ -5,12 +5,14 @@ use Rattle.std.proofs.Math.Option.{none}
 use Rattle.rules.specs.Job.{written}
 use Rattle.rules.specs.Stl.{file_length, facets_of, file_of, Wrote, write_facets, count_in, units_in, Read, read_file}
 use Rattle.rules.specs.Laws.Stl.{file_length_lem}
-use Rattle.trips.specs.Writable.{wrote_whole}
-use Rattle.trips.specs.Readable.{read_whole, read_verdict}
-use Rattle.trips.specs.Forth.{file_count, file_readable, file_units}
-use Rattle.trips.specs.Back.{units_length, units_file, units_writable}
-pub use Rattle.trips.specs.Writable.{Writable, wrote_exactly}
-pub use Rattle.trips.specs.Readable.{Sound, Readable, read_exactly}
+use Rattle.trips.proofs.Writable.{wrote_whole}
+use Rattle.trips.proofs.Readable.{read_whole, read_verdict}
+use Rattle.trips.proofs.Forth.{file_count, file_readable, file_units}
+use Rattle.trips.proofs.Back.{units_length, units_file, units_writable}
+pub use Rattle.trips.specs.Writable.{Writable}
+pub use Rattle.trips.proofs.Writable.{wrote_exactly}
+pub use Rattle.trips.specs.Readable.{Sound, Readable}
+pub use Rattle.trips.proofs.Readable.{read_exactly}
 
 -- ---- code 0 says that the list, or the file, is one of those that are taken
 
