@@ -15,11 +15,11 @@ use Rattle.rules.specs.Laws.Stl.{file_length_lem}
 use Rattle.rules.specs.Reading.Points.{range_reads}
 use Rattle.grid.specs.Exact.{exact, comes_back}
 use Rattle.grid.specs.Named.{units_exactly, off}
-use Rattle.trips.specs.Writable.{wrote_whole}
-use Rattle.trips.specs.Readable.{read_whole, read_verdict}
-use Rattle.trips.specs.Forth.{file_count, file_readable, file_units}
-use Rattle.trips.specs.Back.{units_length, units_file, units_writable}
-use Rattle.trips.specs.Trips.{Writable, wrote_exactly, Readable, read_exactly, wrote_front, read_front}
+use Rattle.trips.proofs.Writable.{wrote_whole}
+use Rattle.trips.proofs.Readable.{read_whole, read_verdict}
+use Rattle.trips.proofs.Forth.{file_count, file_readable, file_units}
+use Rattle.trips.proofs.Back.{units_length, units_file, units_writable}
+use Rattle.trips.proofs.Trips.{Writable, wrote_exactly, Readable, read_exactly, wrote_front, read_front}
 use Rattle.trips.specs.Worked.{minus_zero_off, infinity_off, minus_infinity_off}
 use Rattle.demands.specs.Workshop.{Numbers, Filled, WrittenRead, ReadWritten}
 

@@ -32,7 +32,7 @@ use Rattle.track.specs.Outcomes.{result_of}
 use Rattle.track.specs.Accepted.{job_accepted, job_closed, place_is}
 use Rattle.track_stl.specs.Corners.{three_units, unit_before, unit_at_lem}
 use Rattle.track_stl.specs.Ran.{told, outward_few, ran_is, triangles_told}
-use Rattle.trips.specs.Trips.{Writable, wrote_exactly, wrote_front, write_read}
+use Rattle.trips.proofs.Trips.{Writable, wrote_exactly, wrote_front, write_read}
 use Rattle.demands.specs.Workshop.{corner_in, HasPoints, needed, Written, SkinFile}
 use Rattle.demands.specs.Grown.{demand_2}
 use Rattle.demands.specs.Outwards.{each_faces, each_passed}

@@ -13,9 +13,9 @@ use Rattle.lines.specs.Put.{front_within}
 use Rattle.stl.specs.Reading.{verdict_of, facets_in, told}
 use Rattle.stl.specs.declared.reader.Reading.{Reading}
 use Rattle.stl.specs.declared.reader.Reading.TheVariants.{Facets}
-use Rattle.trips.specs.Readable.{read_exactly, read_verdict}
-use Rattle.trips.specs.Back.{units_length}
-use Rattle.trips.specs.Trips.{read_front}
+use Rattle.trips.proofs.Readable.{read_exactly, read_verdict}
+use Rattle.trips.proofs.Back.{units_length}
+use Rattle.trips.proofs.Trips.{read_front}
 use Rattle.workshop.specs.Said.{zeros, refusal, file_refused, file_said, Says}
 
 -- ---- a refusal
