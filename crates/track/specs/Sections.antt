@@ -22,6 +22,7 @@ use Rattle.table.specs.declared.Broken.TheVariants.{Nothing, Row, Order, Triangl
 use Rattle.table.specs.Rows.{table_in}
 use Rattle.table.specs.Closed.{verdict_of, left_of}
 use Rattle.track.specs.declared.Outcome.{Outcome}
+use Rattle.table.specs.Ground.{Ground}
 use Rattle.track.specs.Outcomes.{lent, result_of, refusal}
 use Rattle.track.specs.Cut.{counted, marks_is, points_is, proposals_counted, job_is}
 use Rattle.track.specs.Stages.{decided, job_in, from_table, later_tests, from_marks, late, all_zero, Ready, Laid}
@@ -121,19 +122,22 @@ module _ {h : Header} {job : List ℕ} {buffers : Lent} (l : Laid h job buffers)
       work_long : length work ≡ work_room track (meant h)
       work_long = ap length listed ∙ kept ∙ l.work_room_lem
 
+      ground : Ground rows work h.ids
+      ground = record {
+        few = rw (counted job l.is l.long ea eb ec ed) l.few;
+        paired = is_closed.paired;
+        room = omega (arith, counted job l.is l.long ea eb ec ed, work_long);
+        at = λ r c lr lc.
+            ap (λ (xs : List ℕ). get_or xs (4 * r + c) 0) listed
+            ∙ written_at (neighbour_list (table_in rows)) buffers.work (4 * r + c) (rw (list_length (table_in rows)) (omega arith))
+            ∙ list_at (table_in rows) r c lr lc;
+      }
+
       pub ready : Ready h rows marks proposals points (lent buffers.answers buffers.final_marks buffers.triangles work)
       ready = record {
         few_ids = l.few_ids;
         closed = is_closed;
-        ground = record {
-          few = rw (counted job l.is l.long ea eb ec ed) l.few;
-          paired = is_closed.paired;
-          room = omega (arith, counted job l.is l.long ea eb ec ed, work_long);
-          at = λ r c lr lc.
-              ap (λ (xs : List ℕ). get_or xs (4 * r + c) 0) listed
-              ∙ written_at (neighbour_list (table_in rows)) buffers.work (4 * r + c) (rw (list_length (table_in rows)) (omega arith))
-              ∙ list_at (table_in rows) r c lr lc;
-        };
+        ground = ground;
         each = ap length (marks_is job l.is l.long ea eb ec ed) ∙ part_length job (marks_at track (meant h)) h.rows (omega (arith, l.long)) ∙ sym (counted job l.is l.long ea eb ec ed);
         points_long = ap length (points_is job l.is l.long ea eb ec ed) ∙ part_length job (points_at track (meant h)) (point_bytes track (meant h)) (omega (arith, l.long));
         listed = listed ∙ sym (ap (written (neighbour_list (table_in rows))) listed
