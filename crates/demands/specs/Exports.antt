@@ -25,7 +25,7 @@ use Rattle.rules.specs.Reading.Points.{InRange, OnGrid, grid_reads}
 use Rattle.rules.specs.Reading.Outward.{listed_id, FacesOutward, three_each}
 use Rattle.rules.specs.Reading.Codes.{with_points_reads, run_code_below, refusal_keeps, accepted_grid}
 use Rattle.outward.specs.Row.{id_below}
-use Rattle.outward.specs.Outward.{as_rising}
+use Rattle.outward.proofs.Outward.{as_rising}
 use Rattle.job.specs.Reading.{header}
 use Rattle.track.specs.declared.Outcome.{Outcome}
 use Rattle.track.specs.Outcomes.{result_of}

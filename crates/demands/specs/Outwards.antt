@@ -19,8 +19,8 @@ use Rattle.rules.specs.Reading.Room.{skin_same_length}
 use Rattle.rules.specs.Reading.Outward.{listed_id, Passes, FacesOutward, rising_unless}
 use Rattle.rules.specs.Reading.File.{outward_exactly, outward_points}
 use Rattle.rules.specs.Reading.Codes.{accepted_points}
-use Rattle.manifold.specs.Jobs.{job_every_step}
-use Rattle.outward.specs.Outward.{as_rising, outward_list, outward_words, faces, each_way}
+use Rattle.manifold.proofs.Jobs.{job_every_step}
+use Rattle.outward.proofs.Outward.{as_rising, outward_list, outward_words, faces, each_way}
 use Rattle.track.specs.declared.Outcome.{Outcome}
 use Rattle.track.specs.Outcomes.{result_of}
 use Rattle.track.specs.Accepted.{job_accepted, job_closed}

@@ -16,7 +16,8 @@ use Rattle.rules.specs.Reading.Ring.{clean_plain}
 use Rattle.rules.specs.Reading.Answers.{triangles_read}
 use Rattle.rules.specs.Reading.Codes.{RoomShort, accepted_header, accepted_length}
 use Rattle.manifold.specs.Steps.{flipped, taken_earlier, refused_earlier, undoing, undoing_front, undoing_length}
-use Rattle.manifold.specs.Jobs.{job_every_step, job_five_cases, job_backwards, cut_run, undone_run}
+use Rattle.manifold.specs.Jobs.{cut_run}
+use Rattle.manifold.proofs.Jobs.{job_every_step, job_five_cases, job_backwards, undone_run}
 use Rattle.track.specs.declared.Outcome.{Outcome}
 use Rattle.track.specs.Outcomes.{result_of}
 use Rattle.track.specs.Accepted.{job_accepted, job_closed, answers_are, marks_are, taken_is}

@@ -10,9 +10,9 @@ use Rattle.rules.specs.Laws.Shape.{two_others}
 use Rattle.rules.specs.Reading.Rows.{ids_differ, Holds, holds_reads}
 use Rattle.rules.specs.Reading.Closed.{Closed}
 use Rattle.rules.specs.Reading.Skin.{Different, skin_far}
-use Rattle.manifold.specs.Facet.{FlipAt, flip_back}
-use Rattle.manifold.specs.Ring.{Edges, Ring, Empty, empty_ring, ring_along, End, Corners, Flipped, three_in, two_in, one_in, one_in_free, none_in, none_in_empty}
-use Rattle.manifold.specs.Triangle.{Skin, Rings, skin_swap, skin_kept, skin_flipped, far_skin}
+use Rattle.manifold.specs.Facet.{FlipAt}
+use Rattle.manifold.specs.Ring.{Edges, Ring, End, Corners, Flipped, one_in_free}
+use Rattle.manifold.specs.Triangle.{Skin, Rings, skin_flipped, far_skin}
 
 -- ---- the four corners of a row, in any order
 
@@ -58,7 +58,7 @@ four_at i li = ⊎_elim (λ (e : i ≡ 0). from 1 (lit< tt) (λ (q : i ≡ 1). o
     from j lj ij = let (k, l, o) = four_from i j li lj ij in (j, k, l, o)
 
 -- two corners next to each other change places
-swap_jk : {i j k l : ℕ} → Four i j k l → Four i k j l
+pub swap_jk : {i j k l : ℕ} → Four i j k l → Four i k j l
 swap_jk o = record {
   i_below = o.i_below;
   j_below = o.k_below;
@@ -73,7 +73,7 @@ swap_jk o = record {
   only = λ m lm. ⊎_elim inl (⊎_elim (λ e. inr (inr (inl e))) (⊎_elim (λ e. inr (inl e)) (λ e. inr (inr (inr e))))) (o.only m lm);
 }
 
-swap_ij : {i j k l : ℕ} → Four i j k l → Four j i k l
+pub swap_ij : {i j k l : ℕ} → Four i j k l → Four j i k l
 swap_ij o = record {
   i_below = o.j_below;
   j_below = o.i_below;
@@ -88,7 +88,7 @@ swap_ij o = record {
   only = λ m lm. ⊎_elim (λ e. inr (inl e)) (⊎_elim inl (λ e. inr (inr e))) (o.only m lm);
 }
 
-swap_kl : {i j k l : ℕ} → Four i j k l → Four i j l k
+pub swap_kl : {i j k l : ℕ} → Four i j k l → Four i j l k
 swap_kl o = record {
   i_below = o.i_below;
   j_below = o.j_below;
@@ -104,21 +104,21 @@ swap_kl o = record {
 }
 
 -- what holds of each of the four holds of each corner
-by_four : {i j k l : ℕ} → Four i j k l → (P : ℕ → Type 0) → P i → P j → P k → P l → (m : ℕ) → m < 4 → P m
+pub by_four : {i j k l : ℕ} → Four i j k l → (P : ℕ → Type 0) → P i → P j → P k → P l → (m : ℕ) → m < 4 → P m
 by_four {i} {j} {k} {l} o P pi pj pk pl m lm =
     ⊎_elim (λ (e : m ≡ i). subst P (sym e) pi)
     (⊎_elim (λ (e : m ≡ j). subst P (sym e) pj) (⊎_elim (λ (e : m ≡ k). subst P (sym e) pk) (λ (e : m ≡ l). subst P (sym e) pl))) (o.only m lm)
 
 module _ (t : Table) (four : t.corners ≡ 4) {id_count : ℕ} (closed : Closed t id_count) {inside after : ℕ → Bool} {r : ℕ} (flip : FlipAt inside after r) (lr : r < t.rows) where
   -- the triangle that leaves out corner c is on the skin
-  abbrev Left : ℕ → Type 0
+  abbrev pub Left : ℕ → Type 0
   Left c = on_skin t inside r c ≡ true
 
   -- the far edges of the vertex at corner c, before and after
-  abbrev Before : ℕ → Edges
+  abbrev pub Before : ℕ → Edges
   Before c = Skin t inside (t.id r c)
 
-  abbrev After : ℕ → Edges
+  abbrev pub After : ℕ → Edges
   After c = Skin t after (t.id r c)
 
   corner : {c : ℕ} → c < 4 → c < t.corners
@@ -131,7 +131,7 @@ module _ (t : Table) (four : t.corners ≡ 4) {id_count : ℕ} (closed : Closed 
 
   module _ {i j k l : ℕ} (o : Four i j k l) where
     -- its three far edges in the row
-    vertex_corners : Corners (λ a. Holds t r a × (a ≢ t.id r i)) (t.id r j) (t.id r k) (t.id r l)
+    pub vertex_corners : Corners (λ a. Holds t r a × (a ≢ t.id r i)) (t.id r j) (t.id r k) (t.id r l)
     vertex_corners = record {
       first = ((j, corner o.j_below, refl), differ o.j_below o.i_below (Ne-symm o.ij));
       second = ((k, corner o.k_below, refl), differ o.k_below o.i_below (Ne-symm o.ik));
@@ -145,7 +145,7 @@ module _ (t : Table) (four : t.corners ≡ 4) {id_count : ℕ} (closed : Closed 
           (o.only m (subst (λ (n : ℕ). m < n) four lm));
     }
 
-    vertex_flipped : Flipped (λ a. Holds t r a × (a ≢ t.id r i)) (Before i) (After i)
+    pub vertex_flipped : Flipped (λ a. Holds t r a × (a ≢ t.id r i)) (Before i) (After i)
     vertex_flipped = skin_flipped t four closed flip lr (t.id r i) (i, corner o.i_below, refl)
 
     -- the edge between j and k is a far edge exactly if the triangle that leaves out l is on the skin
@@ -172,98 +172,21 @@ module _ (t : Table) (four : t.corners ≡ 4) {id_count : ℕ} (closed : Closed 
         (λ e. forth (sym same ∙ e), λ s. same ∙ back s)
 
   module _ {i j k l : ℕ} (o : Four i j k l) where
-    edge_jk : Left l ↔ Before i (t.id r j) (t.id r k)
+    pub edge_jk : Left l ↔ Before i (t.id r j) (t.id r k)
     edge_jk = far_left o
 
-    edge_kl : Left j ↔ Before i (t.id r k) (t.id r l)
+    pub edge_kl : Left j ↔ Before i (t.id r k) (t.id r l)
     edge_kl = far_left (swap_kl (swap_jk o))
 
-    edge_lj : Left k ↔ Before i (t.id r l) (t.id r j)
+    pub edge_lj : Left k ↔ Before i (t.id r l) (t.id r j)
     edge_lj = far_left (swap_jk (swap_kl o))
 
-    at_three : Left j → Left k → Left l → Ring (Before i) → Ring (After i)
-    at_three lj lk ll ring = empty_ring (three_in (vertex_corners o) (vertex_flipped o) (edge_jk.0 ll) (edge_kl.0 lj) (edge_lj.0 lk) ring)
-
-    at_two : Left j → (Left k → ⊥) → Left l → Ring (Before i) → Ring (After i)
-    at_two lj nk ll ring = two_in (vertex_corners o) (vertex_flipped o) (edge_jk.0 ll) (edge_kl.0 lj) (λ s. nk (edge_lj.1 s)) ring
-
-    at_one : (Left j → ⊥) → (Left k → ⊥) → Left l → (End (Before i) (t.id r l) → ⊥) → Ring (Before i) → Ring (After i)
-    at_one nj nk ll off ring = one_in (vertex_corners o) (vertex_flipped o) (edge_jk.0 ll) (λ s. nj (edge_kl.1 s)) (λ s. nk (edge_lj.1 s)) off ring
-
-    at_one_free : (Left j → ⊥) → (Left k → ⊥) → Ring (After i) → End (Before i) (t.id r l) → ⊥
+    pub at_one_free : (Left j → ⊥) → (Left k → ⊥) → Ring (After i) → End (Before i) (t.id r l) → ⊥
     at_one_free nj nk ring = one_in_free (vertex_corners o) (vertex_flipped o) (λ s. nj (edge_kl.1 s)) (λ s. nk (edge_lj.1 s)) ring
-
-    at_none : Empty (Before i) → Ring (After i)
-    at_none = none_in (vertex_corners o) (vertex_flipped o)
-
-    at_none_empty : (Left j → ⊥) → (Left k → ⊥) → (Left l → ⊥) → Ring (After i) → Empty (Before i)
-    at_none_empty nj nk nl ring =
-        none_in_empty (vertex_corners o) (vertex_flipped o) (λ s. nl (edge_jk.1 s)) (λ s. nj (edge_kl.1 s)) (λ s. nk (edge_lj.1 s)) ring
-
-  -- ---- at every vertex
-
-  -- where the rings at the row's own vertices are as they should be, all are
-  everywhere : Rings t inside → ((i : ℕ) → i < 4 → Ring (After i)) → Rings t after
-  everywhere rings own v = ⊎_elim (λ e. held ((holds_reads t r v).0 e)) (λ f. not_held (λ h. not_both ((holds_reads t r v).1 h) f)) (true_or_false (holds t r v))
-    where
-      held : Holds t r v → Ring (Skin t after v)
-      held (c, l, e) = subst (λ (u : ℕ). Ring (Skin t after u)) e (own c (subst (λ (n : ℕ). c < n) four l))
-
-      not_held : (Holds t r v → ⊥) → Ring (Skin t after v)
-      not_held off = ring_along (skin_kept t four closed flip lr v off) (skin_kept t four closed (flip_back flip) lr v off) (rings v)
 
   -- ---- by f
 
-  -- f = 0: no triangle of the row is on the skin
-  module _ (none : (c : ℕ) → c < 4 → Left c → ⊥) where
-    pub passes_0 : Rings t inside → ((c : ℕ) → c < 4 → Empty (Before c)) → Rings t after
-    passes_0 rings free = everywhere rings (λ i li. let (j, k, l, o) = four_at i li in at_none o (free i li))
-
-    pub needs_0 : Rings t after → (c : ℕ) → c < 4 → Empty (Before c)
-    needs_0 rings c lc =
-        let (j, k, l, o) = four_at c lc in
-        at_none_empty o (none j o.j_below) (none k o.k_below) (none l o.l_below) (rings (t.id r c))
-
-  -- f = 1: the one that leaves out corner p
-  module _ {p j k l : ℕ} (o : Four p j k l) (left_p : Left p) (not_j : Left j → ⊥) (not_k : Left k → ⊥) (not_l : Left l → ⊥) where
-    -- no far edge of another vertex ends in p, since it would be one of p
-    pub passes_1 : Rings t inside → Empty (Before p) → Rings t after
-    passes_1 rings free = everywhere rings (by_four o (λ i. Ring (After i)) (at_none o free)
-        (other j (swap_kl (swap_jk (swap_ij o))) not_k not_l) (other k (swap_kl (swap_jk (swap_ij (swap_jk o)))) not_j not_l)
-        (other l (swap_kl (swap_jk (swap_ij (swap_jk (swap_kl o))))) not_j not_k))
-      where
-        other : (i : ℕ) {a b : ℕ} → Four i a b p → (Left a → ⊥) → (Left b → ⊥) → Ring (After i)
-        other i o' na nb = at_one o' na nb left_p (λ (b, s). free (t.id r i) b (skin_swap t inside (t.id r i) (t.id r p) b s)) (rings (t.id r i))
-
-    pub needs_1 : Rings t after → Empty (Before p)
-    needs_1 rings = at_none_empty o not_j not_k not_l (rings (t.id r p))
-
   -- f = 2: those that leave out corners p and q
   module _ {p q k l : ℕ} (o : Four p q k l) (left_p : Left p) (left_q : Left q) (not_k : Left k → ⊥) (not_l : Left l → ⊥) where
-    -- at p and at q one edge was there, and the other must be no end; at k and l two were
-    pub passes_2 : Rings t inside → (End (Before p) (t.id r q) → ⊥) → Rings t after
-    passes_2 rings free = everywhere rings (by_four o (λ i. Ring (After i))
-        (at_one (swap_kl (swap_jk o)) not_k not_l left_q free (rings (t.id r p)))
-        (at_one (swap_kl (swap_jk (swap_ij o))) not_k not_l left_p (λ (b, s). free (b, skin_swap t inside (t.id r q) (t.id r p) b s)) (rings (t.id r q)))
-        (at_two (swap_kl (swap_ij (swap_jk o))) left_p not_l left_q (rings (t.id r k)))
-        (at_two (swap_kl (swap_ij (swap_jk (swap_kl o)))) left_p not_k left_q (rings (t.id r l))))
-
     pub needs_2 : Rings t after → End (Before p) (t.id r q) → ⊥
     needs_2 rings = at_one_free (swap_kl (swap_jk o)) not_k not_l (rings (t.id r p))
-
-  -- f = 3 and f = 4: at most one triangle is not on the skin
-  module _ (most : (a b : ℕ) → a < 4 → b < 4 → (Left a → ⊥) → (Left b → ⊥) → a ≡ b) where
-    left_or_not : (c : ℕ) → Left c ⊎ (Left c → ⊥)
-    left_or_not c = ⊎_elim inl (λ f. inr (λ e. not_both e f)) (true_or_false (on_skin t inside r c))
-
-    pub passes_more : Rings t inside → Rings t after
-    passes_more rings = everywhere rings (λ i li. let (j, k, l, o) = four_at i li in at i j k l o (left_or_not j) (left_or_not k) (left_or_not l))
-      where
-        at : (i j k l : ℕ) → Four i j k l → Left j ⊎ (Left j → ⊥) → Left k ⊎ (Left k → ⊥) → Left l ⊎ (Left l → ⊥) → Ring (After i)
-        at i j k l o (inl lj) (inl lk) (inl ll) = at_three o lj lk ll (rings (t.id r i))
-        at i j k l o (inr nj) (inl lk) (inl ll) = at_two (swap_jk o) lk nj ll (rings (t.id r i))
-        at i j k l o (inl lj) (inr nk) (inl ll) = at_two o lj nk ll (rings (t.id r i))
-        at i j k l o (inl lj) (inl lk) (inr nl) = at_two (swap_kl o) lj nl lk (rings (t.id r i))
-        at i j k l o (inr nj) (inr nk) _ = absurd (o.jk (most j k o.j_below o.k_below nj nk))
-        at i j k l o (inr nj) (inl lk) (inr nl) = absurd (o.jl (most j l o.j_below o.l_below nj nl))
-        at i j k l o (inl lj) (inr nk) (inr nl) = absurd (o.kl (most k l o.k_below o.l_below nk nl))

@@ -28,6 +28,8 @@
 --                leads to a clean skin, the taken proposals are all taken backwards.
 --     Jobs       The same for accepted jobs.
 --     Sharp      Without the vertex rule it would be false.
+-- The theorems that rest on Ring's records, on what Decide asks, or on those of them stand in proofs/ under the same names, and by f in its
+-- Free: so a wrong definition here is refused by a proof.
 pub mod Facet
 pub mod Ring
 pub mod Triangle

@@ -119,7 +119,7 @@ flips_first : {P Q : Type 0} → Flips P Q → P → Q → ⊥
 flips_first (inl (_, n)) p q = n q
 flips_first (inr (_, n)) p q = n p
 
-flips_second : {P Q : Type 0} → Flips P Q → (P → ⊥) → Q
+pub flips_second : {P Q : Type 0} → Flips P Q → (P → ⊥) → Q
 flips_second (inl (p, _)) n = absurd (n p)
 flips_second (inr (q, _)) n = q
 
@@ -446,13 +446,6 @@ module _ {T : ℕ → Type 0} {x y z : ℕ} (c : Corners T x y z) {S S' : Edges}
       joined' : (a d : ℕ) → End S' a → End S' d → Chain (End S') S' a d
       joined' a d (b, p) (g, q) =
           ⊎_elim (λ e. stay (b, p) e) (λ ne. step (b, p) (now a d (corner a b p) (corner d g q) ne) (stay (g, q) refl)) (same_or_not a d)
-
--- so it is the only one: with all three edges in S', nothing was in S
-pub none_in_empty : {T : ℕ → Type 0} {x y z : ℕ} → Corners T x y z → {S S' : Edges} → Flipped T S S'
-    → (S x y → ⊥) → (S y z → ⊥) → (S z x → ⊥) → Ring S' → Empty S
-none_in_empty {T} {x} {y} {z} c f nxy nyz nzx ring' =
-    three_in c (other_way f) (flips_second (f.between x y c.first c.second c.xy) nxy)
-    (flips_second (f.between y z c.second c.third c.yz) nyz) (flips_second (f.between z x c.third c.first c.zx) nzx) ring'
 
 -- ---- the ring of `rules`, which speaks of numbers below n
 

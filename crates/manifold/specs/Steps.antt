@@ -1,6 +1,6 @@
--- Proposals: each answer, every step, and backwards.
-use Rattle.std.specs.Prelude.{◌≡◌, refl, ◌⊎◌, ◌↔◌, ◌≢◌, Bool, true, false, not, cond, eqb, length, set, take, drop, replicate}
-use Rattle.std.proofs.Common.{sym, ap₂, ◌∙◌, inl, inr, lt_of_not-le, not-le_of_lt, arith, lit<, length-append, length-set, get_or-set_same, get_or-set_other, set-set, eq-eqb, ne_eqb, lt-ltb}
+-- Proposals: each answer, the marks after it, and what is run backwards.
+use Rattle.std.specs.Prelude.{◌≡◌, refl, ◌⊎◌, ◌↔◌, ◌≢◌, Bool, true, false, not, cond, eqb, length, set, drop, replicate}
+use Rattle.std.proofs.Common.{sym, ap₂, ◌∙◌, inl, inr, lt_of_not-le, not-le_of_lt, arith, lit<, length-append, length-set, get_or-set_same, get_or-set_other, eq-eqb, ne_eqb, lt-ltb}
 use Rattle.std.proofs.Math.Path.{ap, subst}
 use Rattle.std.proofs.Math.Logic.{⊎_elim}
 use Rattle.std.proofs.Math.Bool.{not-not}
@@ -8,7 +8,7 @@ use mathlib.Core.List.Memᴰ
 use mathlib.Core.List.{List, [], ◌∷◌, ◌++◌, map, reverse, reverse-cons}
 use Prim.Native.Nat.{ℕ, zero, suc, ◌+◌, ◌-◌, ◌≤◌, ◌<◌}
 use Rattle.std.proofs.Math.ListN.{get_or}
-use Rattle.std.proofs.lemmas.List.{length-map, length-reverse, replicate-append-replicate, set-get_or}
+use Rattle.std.proofs.lemmas.List.{length-map, length-reverse, replicate-append-replicate}
 use Rattle.rules.specs.Below.{bit, only}
 use Rattle.rules.specs.Table.{Table, holds}
 use Rattle.rules.specs.Skin.{clean}
@@ -24,7 +24,6 @@ use Rattle.rules.specs.Reading.Closed.{Closed}
 use Rattle.rules.specs.Reading.Outer.{OuterAlike}
 use Rattle.rules.specs.Reading.Answers.{answer_conditions, other_side_reads, other_reads, answer_exactly, taken_exactly}
 use Rattle.manifold.specs.Facet.{FlipAt, not_differs, differs_not}
-use Rattle.manifold.specs.Decide.{cases_decide}
 
 -- ---- a flipped mark
 
@@ -32,7 +31,7 @@ use Rattle.manifold.specs.Decide.{cases_decide}
 abbrev pub flipped : List ℕ → Proposal → List ℕ
 flipped marks p = set marks p.row (bit (adds p))
 
-flip_at : (marks : List ℕ) (p : Proposal) → p.row < length marks → inside_in marks p.row ≡ not (adds p)
+pub flip_at : (marks : List ℕ) (p : Proposal) → p.row < length marks → inside_in marks p.row ≡ not (adds p)
     → FlipAt (inside_in marks) (inside_in (flipped marks p)) p.row
 flip_at marks p l e = record {
   named = set_inside marks p.row (adds p) l ∙ sym (not-not (adds p)) ∙ ap not (sym e);
@@ -52,7 +51,7 @@ pub record Eligible (t : Table) (marks : List ℕ) (p : Proposal) : Type 0 where
   pub finite : Holds t p.row 0 → ⊥
   pub this_side : inside_in marks p.row ≡ not (adds p)
 
-passes_earlier : (t : Table) (marks : List ℕ) (p : Proposal) → PassesEarlier t marks p ↔ Eligible t marks p
+pub passes_earlier : (t : Table) (marks : List ℕ) (p : Proposal) → PassesEarlier t marks p ↔ Eligible t marks p
 passes_earlier t marks p = (forth, back)
   where
     forth : PassesEarlier t marks p → Eligible t marks p
@@ -98,13 +97,13 @@ module _ (t : Table) (marks : List ℕ) (p : Proposal) where
               (λ e. not_differs (adds p) (adds p) refl (sym x.this_side ∙ (other_side_reads (adds p) (inside_in marks) p.row).0 e)),
         )
 
-    taken_passes : (answer t marks p ≡ 0) ↔ (passes t (inside_in marks) (adds p) p.row ≡ true)
+    pub taken_passes : (answer t marks p ≡ 0) ↔ (passes t (inside_in marks) (adds p) p.row ≡ true)
     taken_passes = rw by_cases (passed_exactly t (inside_in marks) (adds p) p.row)
 
-    refused_passes : RefusedByCases (answer t marks p) ↔ (passes t (inside_in marks) (adds p) p.row ≡ false)
+    pub refused_passes : RefusedByCases (answer t marks p) ↔ (passes t (inside_in marks) (adds p) p.row ≡ false)
     refused_passes = rw by_cases (refused_exactly t (inside_in marks) (adds p) p.row)
 
-    refused_at_passes : (f : ℕ) → (answer t marks p ≡ 5 + f) ↔ ((triangles_on_skin t (inside_in marks) p.row ≡ f) × (passes t (inside_in marks) (adds p) p.row ≡ false))
+    pub refused_at_passes : (f : ℕ) → (answer t marks p ≡ 5 + f) ↔ ((triangles_on_skin t (inside_in marks) p.row ≡ f) × (passes t (inside_in marks) (adds p) p.row ≡ false))
     refused_at_passes f = rw by_cases (refused_at_exactly t (inside_in marks) (adds p) p.row f)
 
   -- Only answer 0 changes a mark, the named one.
@@ -179,7 +178,7 @@ module _ (t : Table) where
   abbrev pub AllTaken : List ℕ → List Proposal → List ℕ → Type 0
   AllTaken marks ps left = (answers_to t marks ps ≡ replicate (length ps) 0) × (final_marks t marks ps ≡ left)
 
-  all_taken_append : (marks between left : List ℕ) (xs ys : List Proposal) → AllTaken marks xs between → AllTaken between ys left → AllTaken marks (xs ++ ys) left
+  pub all_taken_append : (marks between left : List ℕ) (xs ys : List Proposal) → AllTaken marks xs between → AllTaken between ys left → AllTaken marks (xs ++ ys) left
   all_taken_append marks between left xs ys (a, m) (b, n) = (
     answers_append t marks xs ys
         ∙ ap₂ (λ (u v : List ℕ). u ++ v) a (ap (λ (k : List ℕ). answers_to t k ys) m ∙ b)
@@ -201,18 +200,18 @@ module _ (t : Table) where
   abbrev undoing_from : List ℕ → List Proposal → List Proposal
   undoing_from marks ps = undoing (answers_to t marks ps) ps
 
-  undoing_taken : (marks : List ℕ) (p : Proposal) (ps : List Proposal) → answer t marks p ≡ 0 → undoing_from marks (p ∷ ps) ≡ undoing_from (marks_after t marks p) ps ++ (exchanged p ∷ [])
+  pub undoing_taken : (marks : List ℕ) (p : Proposal) (ps : List Proposal) → answer t marks p ≡ 0 → undoing_from marks (p ∷ ps) ≡ undoing_from (marks_after t marks p) ps ++ (exchanged p ∷ [])
   unfolding undoing taken_of only answers_to
   undoing_taken marks p ps a =
       let rest = taken_of (answers_to t (marks_after t marks p) ps) ps in
       ap (λ (b : Bool). reverse (map exchanged (only b p ++ rest))) (eq-eqb (answer t marks p) 0 a) ∙ reverse-cons (exchanged p) (map exchanged rest)
 
-  undoing_refused : (marks : List ℕ) (p : Proposal) (ps : List Proposal) → answer t marks p ≢ 0 → undoing_from marks (p ∷ ps) ≡ undoing_from (marks_after t marks p) ps
+  pub undoing_refused : (marks : List ℕ) (p : Proposal) (ps : List Proposal) → answer t marks p ≢ 0 → undoing_from marks (p ∷ ps) ≡ undoing_from (marks_after t marks p) ps
   unfolding undoing taken_of only answers_to
   undoing_refused marks p ps ne =
       ap (λ (b : Bool). reverse (map exchanged (only b p ++ taken_of (answers_to t (marks_after t marks p) ps) ps))) (ne_eqb (answer t marks p) 0 ne)
 
-exchanged_adds : (p : Proposal) → adds (exchanged p) ≡ not (adds p)
+pub exchanged_adds : (p : Proposal) → adds (exchanged p) ≡ not (adds p)
 unfolding adds exchanged
 exchanged_adds p = go (eqb p.kind 1)
   where
@@ -220,7 +219,7 @@ exchanged_adds p = go (eqb p.kind 1)
     go true = refl
     go false = refl
 
-exchanged_kind : (p : Proposal) → ((exchanged p).kind ≡ 1) ⊎ ((exchanged p).kind ≡ 2)
+pub exchanged_kind : (p : Proposal) → ((exchanged p).kind ≡ 1) ⊎ ((exchanged p).kind ≡ 2)
 unfolding exchanged
 exchanged_kind p = go (adds p)
   where
@@ -229,7 +228,7 @@ exchanged_kind p = go (adds p)
     go false = inl refl
 
 -- a mark that is 0 or 1 is what it says
-mark_back : (marks : List ℕ) (r : ℕ) → (get_or marks r 0 ≡ 0) ⊎ (get_or marks r 0 ≡ 1) → bit (inside_in marks r) ≡ get_or marks r 0
+pub mark_back : (marks : List ℕ) (r : ℕ) → (get_or marks r 0 ≡ 0) ⊎ (get_or marks r 0 ≡ 1) → bit (inside_in marks r) ≡ get_or marks r 0
 unfolding inside_in bit
 mark_back marks r (inl z) = rw z
 mark_back marks r (inr o) = rw o
@@ -241,7 +240,7 @@ pub record Marks (t : Table) (marks : List ℕ) : Type 0 where
   pub one_each : length marks ≡ t.rows
   pub binary : (r : ℕ) → r < t.rows → (get_or marks r 0 ≡ 0) ⊎ (get_or marks r 0 ≡ 1)
 
-flipped_marks : (t : Table) (marks : List ℕ) → Marks t marks → (p : Proposal) → p.row < t.rows → Marks t (flipped marks p)
+pub flipped_marks : (t : Table) (marks : List ℕ) → Marks t marks → (p : Proposal) → p.row < t.rows → Marks t (flipped marks p)
 unfolding bit
 flipped_marks t marks m p l = record {
   one_each = length-set marks p.row (bit (adds p)) ∙ m.one_each;
@@ -253,105 +252,3 @@ flipped_marks t marks m p l = record {
     zero_or_one : (b : Bool) → (bit b ≡ 0) ⊎ (bit b ≡ 1)
     zero_or_one true = inr refl
     zero_or_one false = inl refl
-
-module _ (t : Table) (four : t.corners ≡ 4) {id_count : ℕ} (closed : Closed t id_count) where
-  -- the skin of these marks is clean
-  abbrev Clean : List ℕ → Type 0
-  Clean marks = clean t (inside_in marks) id_count ≡ true
-
-  -- the five cases pass exactly if the skin with the named mark flipped is clean
-  decides : (marks : List ℕ) → Marks t marks → Clean marks → (p : Proposal) → PassesEarlier t marks p
-      → passes t (inside_in marks) (adds p) p.row ≡ clean t (inside_in (flipped marks p)) id_count
-  decides marks m e p off =
-      let x = (passes_earlier t marks p).0 off in
-      cases_decide t four closed (flip_at marks p (subst (λ (n : ℕ). p.row < n) (sym m.one_each) x.row_below) x.this_side) x.row_below (adds p) x.this_side e
-
-  -- Of a proposal that passes tests 1 to 4 the answer is 0 exactly if the skin with the named mark flipped is clean, and that of the five cases exactly if it is not:
-  -- 5 + f, for f triangles of its row on the skin.
-  pub five_cases : (marks : List ℕ) → Marks t marks → Clean marks → (p : Proposal) → PassesEarlier t marks p
-      → ((answer t marks p ≡ 0) ↔ (clean t (inside_in (flipped marks p)) id_count ≡ true))
-      × (RefusedByCases (answer t marks p) ↔ (clean t (inside_in (flipped marks p)) id_count ≡ false))
-      × ((f : ℕ) → (answer t marks p ≡ 5 + f) ↔ ((triangles_on_skin t (inside_in marks) p.row ≡ f) × (clean t (inside_in (flipped marks p)) id_count ≡ false)))
-  five_cases marks m e p off =
-      let same = decides marks m e p off in
-      (rw (← same) (taken_passes t marks p off), rw (← same) (refused_passes t marks p off), λ f. rw (← same) (refused_at_passes t marks p off f))
-
-  -- nothing clean is refused by the five cases
-  pub nothing_clean_refused : (marks : List ℕ) → Marks t marks → Clean marks → (p : Proposal) → PassesEarlier t marks p → Clean (flipped marks p) → answer t marks p ≡ 0
-  nothing_clean_refused marks m e p off c = (five_cases marks m e p off).0.1 c
-
-  -- nothing unclean is taken
-  pub nothing_unclean_taken : (marks : List ℕ) → Marks t marks → Clean marks → (p : Proposal) → answer t marks p ≡ 0 → Clean (flipped marks p)
-  nothing_unclean_taken marks m e p a = (five_cases marks m e p (taken_earlier t marks p a)).0.0 a
-
-  -- ---- every step
-
-  one_step : (marks : List ℕ) → Marks t marks → Clean marks → (p : Proposal) → Marks t (marks_after t marks p) × Clean (marks_after t marks p)
-  one_step marks m e p = ⊎_elim was_taken was_refused (same_or_not (answer t marks p) 0)
-    where
-      was_taken : answer t marks p ≡ 0 → Marks t (marks_after t marks p) × Clean (marks_after t marks p)
-      was_taken a =
-          subst (λ (n : List ℕ). Marks t n × Clean n) (sym (after_taken t marks p a))
-          (flipped_marks t marks m p ((passes_earlier t marks p).0 (taken_earlier t marks p a)).row_below, nothing_unclean_taken marks m e p a)
-
-      was_refused : answer t marks p ≢ 0 → Marks t (marks_after t marks p) × Clean (marks_after t marks p)
-      was_refused ne = subst (λ (n : List ℕ). Marks t n × Clean n) (sym (after_refused t marks p ne)) (m, e)
-
-  pub all_steps : (marks : List ℕ) → Marks t marks → Clean marks → (ps : List Proposal) → Marks t (final_marks t marks ps) × Clean (final_marks t marks ps)
-  unfolding final_marks
-  all_steps marks m e [] = (m, e)
-  all_steps marks m e (p ∷ ps) = let (m', e') = one_step marks m e p in all_steps (marks_after t marks p) m' e' ps
-
-  -- From a clean start the skin is clean after every prefix of any list of proposals.
-  pub every_step : (marks : List ℕ) → Marks t marks → Clean marks → (ps : List Proposal) (k : ℕ) → Clean (final_marks t marks (take k ps))
-  every_step marks m e ps k = (all_steps marks m e (take k ps)).1
-
-  -- ---- backwards
-
-  -- a taken proposal is taken back
-  undo_one : (marks : List ℕ) → Marks t marks → Clean marks → (p : Proposal) → answer t marks p ≡ 0 → AllTaken t (flipped marks p) (exchanged p ∷ []) marks
-  unfolding answers_to final_marks exchanged
-  undo_one marks m e p a =
-      (ap (λ (x : ℕ). x ∷ []) answer_0, after_taken t now (exchanged p) answer_0 ∙ restored)
-    where
-      now : List ℕ
-      now = flipped marks p
-
-      was : Eligible t marks p
-      was = (passes_earlier t marks p).0 (taken_earlier t marks p a)
-
-      in_list : p.row < length marks
-      in_list = subst (λ (n : ℕ). p.row < n) (sym m.one_each) was.row_below
-
-      restored : flipped now (exchanged p) ≡ marks
-      restored =
-          set-set marks p.row (bit (adds p)) (bit (adds (exchanged p)))
-          ∙ ap (λ (x : ℕ). set marks p.row x) (ap bit (exchanged_adds p ∙ sym was.this_side) ∙ mark_back marks p.row (m.binary p.row was.row_below))
-          ∙ set-get_or marks p.row 0
-
-      may : Eligible t now (exchanged p)
-      may = record {
-        row_below = was.row_below;
-        kind_known = exchanged_kind p;
-        finite = was.finite;
-        this_side = (flip_at marks p in_list was.this_side).named ∙ ap not was.this_side ∙ ap not (sym (exchanged_adds p));
-      }
-
-      answer_0 : answer t now (exchanged p) ≡ 0
-      answer_0 =
-          nothing_clean_refused now (flipped_marks t marks m p was.row_below) (nothing_unclean_taken marks m e p a) (exchanged p) ((passes_earlier t now (exchanged p)).1 may)
-          (subst Clean (sym restored) e)
-
-  -- Asked one after the other of the final marks, the taken ones, reversed, add and remove exchanged, all get answer 0 and leave the starting marks.
-  pub backwards : (marks : List ℕ) → Marks t marks → Clean marks → (ps : List Proposal) → AllTaken t (final_marks t marks ps) (undoing (answers_to t marks ps) ps) marks
-  unfolding final_marks taken_of undoing answers_to
-  backwards marks m e [] = (refl, refl)
-  backwards marks m e (p ∷ ps) =
-      let (m', e') = one_step marks m e p in
-      let rest = backwards (marks_after t marks p) m' e' ps in
-      ⊎_elim
-      (λ a. subst (λ (qs : List Proposal). AllTaken t (final_marks t (marks_after t marks p) ps) qs marks) (sym (undoing_taken t marks p ps a))
-      (all_taken_append t (final_marks t (marks_after t marks p) ps) (marks_after t marks p) marks (undoing (answers_to t (marks_after t marks p) ps) ps) (exchanged p ∷ []) rest
-      (subst (λ (k : List ℕ). AllTaken t k (exchanged p ∷ []) marks) (sym (after_taken t marks p a)) (undo_one marks m e p a))))
-      (λ ne. subst (λ (qs : List Proposal). AllTaken t (final_marks t (marks_after t marks p) ps) qs marks) (sym (undoing_refused t marks p ps ne))
-      (rest.0, rest.1 ∙ after_refused t marks p ne)) (same_or_not (answer t marks p) 0)

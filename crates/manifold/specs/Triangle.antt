@@ -1,6 +1,6 @@
 -- Skin triangles by their three ids, in any order, and what flipping a row does to them.
-use Rattle.std.specs.Prelude.{◌≡◌, refl, ◌↔◌, ◌≢◌, Bool, true, false, ℕ, ◌<◌, ltb}
-use Rattle.std.proofs.Common.{sym, ◌∙◌, subst, inl, inr, ⊎_elim, ltb-true, lt-ltb}
+use Rattle.std.specs.Prelude.{◌≡◌, refl, ◌↔◌, ◌≢◌, Bool, true, false, ℕ, ◌<◌}
+use Rattle.std.proofs.Common.{sym, ◌∙◌, subst, inl, inr, ⊎_elim}
 use Rattle.std.proofs.Math.Logic.{Ne-symm}
 use Rattle.rules.specs.Table.{Table}
 use Rattle.rules.specs.Skin.{far_edge, clean, skin_vertex}
@@ -12,7 +12,7 @@ use Rattle.rules.specs.Reading.Closed.{Closed, across_is}
 use Rattle.rules.specs.Reading.Skin.{as_tested, skin_reads, skin_between_sides, Different, TriangleIds, SkinTriangle, three_reads, triangle_rows, triangle_of, skin_far, far_reads}
 use Rattle.rules.specs.Reading.Ring.{OneRing, ring_map, FarEdge, clean_reads, off_skin_ring}
 use Rattle.manifold.specs.Facet.{FlipAt, flip_back, Split, split_flips, split_kept, split_map}
-use Rattle.manifold.specs.Ring.{Edges, Ring, empty_ring, ring_reads, Flipped}
+use Rattle.manifold.specs.Ring.{Edges, Ring, Flipped}
 
 module _ (t : Table) where
   -- row z holds the three ids
@@ -28,7 +28,7 @@ module _ (t : Table) where
   Rings inside = (v : ℕ) → Ring (Skin inside v)
 
   -- the ids may be named in any order
-  skin_back : (inside : ℕ → Bool) (v a b : ℕ) → Skin inside v a b → Skin inside v b a
+  pub skin_back : (inside : ℕ → Bool) (v a b : ℕ) → Skin inside v a b → Skin inside v b a
   skin_back inside v a b ((va, vb, ab), s) = ((vb, va, Ne-symm ab), split_map (λ z (h, (k, m)). (h, (m, k))) s)
 
   pub skin_swap : (inside : ℕ → Bool) (v a b : ℕ) → Skin inside v a b → Skin inside a v b
@@ -128,31 +128,10 @@ module _ (t : Table) where
             go false false e g = absurd (s.marks_differ (e ∙ sym g))
 
     -- ids of skin triangles are below V
-    ends_below : (inside : ℕ → Bool) (v a b : ℕ) → Skin inside v a b → (v < id_count) × (a < id_count) × (b < id_count)
+    pub ends_below : (inside : ℕ → Bool) (v a b : ℕ) → Skin inside v a b → (v < id_count) × (a < id_count) × (b < id_count)
     ends_below inside v a b (_, s) =
         let ((i, li, ei), ((j, lj, ej), (k, lk, ek))) = s.one_on in (
           subst (λ (u : ℕ). u < id_count) ei (closed.paired.below s.one s.one_below i li),
           subst (λ (u : ℕ). u < id_count) ej (closed.paired.below s.one s.one_below j lj),
           subst (λ (u : ℕ). u < id_count) ek (closed.paired.below s.one s.one_below k lk),
         )
-
-    -- one ring at v, by the far edges of `rules` and by skin triangles
-    ring_skin : (inside : ℕ → Bool) (v : ℕ) → OneRing id_count (FarEdge t inside id_count v) ↔ Ring (Skin inside v)
-    ring_skin inside v =
-        let (forth, back) = ring_reads {n = id_count} (λ a b s. let (_, la, lb) = ends_below inside v a b s in (la, lb)) (skin_back inside v) in (
-          λ ring. forth (ring_map (λ a b. (far_skin inside v a b).0) (λ a b. (far_skin inside v a b).1) ring),
-          λ ring. ring_map (λ a b. (far_skin inside v a b).1) (λ a b. (far_skin inside v a b).0) (back ring),
-        )
-
-    -- the skin is clean exactly if each id has one ring
-    pub clean_rings : (inside : ℕ → Bool) → (clean t inside id_count ≡ true) ↔ Rings inside
-    clean_rings inside = (
-      λ e v. ⊎_elim (λ l. below e v (ltb-true v id_count l))
-          (λ f. empty_ring (λ a b s. let (lv, _, _) = ends_below inside v a b s in not_both (lt-ltb v id_count lv) f)) (true_or_false (ltb v id_count)),
-      λ rings. (clean_reads t inside id_count).1 (λ v _ _. (ring_skin inside v).1 (rings v)),
-    )
-      where
-        below : clean t inside id_count ≡ true → (v : ℕ) → v < id_count → Ring (Skin inside v)
-        below e v l =
-            ⊎_elim (λ on. (ring_skin inside v).0 ((clean_reads t inside id_count).0 e v l on)) (λ off. (ring_skin inside v).0 (off_skin_ring t inside id_count v l off))
-            (true_or_false (skin_vertex t inside id_count v))

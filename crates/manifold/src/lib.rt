@@ -1,2 +1,2 @@
-// No code: that the five cases decide rings is proved in specs/.
+// No code: that the five cases decide rings is proved in specs/ and proofs/.
 #![tactic(auto)]

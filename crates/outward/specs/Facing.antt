@@ -1,11 +1,10 @@
--- Each listed triangle faces outward.
-use Rattle.std.specs.Prelude.{◌≡◌, refl, ◌≢◌, Bool, true, false, not, cond, ℕ, ◌<◌, get_or}
+-- A triangle in the order asked for faces outward.
+use Rattle.std.specs.Prelude.{◌≡◌, ◌≢◌, Bool, true, false, not, cond, ℕ, ◌<◌, get_or}
 use Rattle.std.proofs.Common.{sym, ap₂, ◌∙◌, arith}
 use Rattle.std.proofs.Math.Path.{ap}
 use Rattle.std.proofs.Math.Logic.{Ne-symm}
 use Rattle.std.proofs.Math.Bool.{xor}
-use Rattle.std.proofs.Math.Option.{some}
-use mathlib.Core.List.{List, [], ◌∷◌, map}
+use mathlib.Core.List.{List, [], ◌∷◌}
 use Rattle.std.proofs.Math.Nat.{lt_trans}
 use Rattle.std.proofs.lemmas.Bool.{not-false}
 use Rattle.rules.specs.Shape.{facet}
@@ -22,7 +21,6 @@ use Rattle.rules.specs.Reading.Outer.{outer_reads, OuterAlike}
 use Rattle.rules.specs.Reading.Points.{below_reads, above_reads}
 use Rattle.rules.specs.Reading.Outward.{listed_id, HoldsAll, FourthCorner, FacesOutward, three_each}
 use Rattle.outward.specs.Row.{ids_last_exchanged, FourIds, below_corners, own_ids, own_is, far_ids, far_is}
-use Rattle.outward.specs.Listed.{outward_words, Stands, at_words}
 use Rattle.outward.specs.Signs.{solid_above, exchanged_below, exchanged_above, solid_row}
 
 -- The ids a, b and e, in this order, are those of the triangle of row r that leaves out corner c, the lowest first. The row's own fourth
@@ -79,7 +77,7 @@ module _ (t : Table) (four : t.corners ≡ 4) {id_count : ℕ} (paired : Paired 
       far_solid out = solid_row t four paired at solid l' (across_finite out) (far_ids t four paired l lc ids differ)
 
       -- so they are listed rising where that is the right way, and else it is the right way to exchange two
-      by_way : (way : Bool) → right_way t at r c ≡ way
+      pub by_way : (way : Bool) → right_way t at r c ≡ way
           → let ids = cond (not way) (p ∷ u ∷ q ∷ []) (p ∷ q ∷ u ∷ []) in Facing t at r c (get_or ids 0 0) (get_or ids 1 0) (get_or ids 2 0)
       by_way true way = record {
         ids = ids;
@@ -95,33 +93,6 @@ module _ (t : Table) (four : t.corners ≡ 4) {id_count : ℕ} (paired : Paired 
         behind = λ fin. exchanged_below at p q u (t.id r c) ∙ solid_above _ (own_solid fin) ∙ ap not (sym (finite_way fin) ∙ way);
         in_front = λ out. exchanged_above at p q u (far_id t r c) ∙ not-false _ (sym (solid_above _ (far_solid out)) ∙ sym (outer_way out) ∙ way);
       }
-
-      as_listed : let ids = triangle_as t true (some at) r c in Facing t at r c (get_or ids 0 0) (get_or ids 1 0) (get_or ids 2 0)
-      unfolding triangle_as exchanged
-      as_listed = rw is (by_way (right_way t at r c) refl)
-
-    facing : let ids = triangle_as t true (some at) r c in Facing t at r c (get_or ids 0 0) (get_or ids 1 0) (get_or ids 2 0)
-    unfolding triangle
-    facing =
-        let (i, j, k, ij, jk, k4, (ni, nj, nk), is) = facet_three c lc in
-        let lj = lt_trans jk k4 in
-        let ids : TriangleIds t r c (t.id r i) (t.id r j) (t.id r k) = record {
-          first = i;
-          second = j;
-          third = k;
-          first_below = lt_trans ij lj;
-          second_below = lj;
-          third_below = k4;
-          first_stays = ni;
-          second_stays = nj;
-          third_stays = nk;
-          first_is = refl;
-          second_is = refl;
-          third_is = refl;
-        }
-        in
-        as_listed ids (paired.rising r l i j ij (below_corners t four lj)) (paired.rising r l j k jk (below_corners t four k4))
-        (ap (λ (n : ℕ). map (t.id r) (facet n c)) four ∙ ap (map (t.id r)) is)
 
     -- in plain words
     pub faces_outward : {a b e : ℕ} → Facing t at r c a b e → FacesOutward t at (Inside marks) a b e
@@ -146,14 +117,3 @@ module _ (t : Table) (four : t.corners ≡ 4) {id_count : ℕ} (paired : Paired 
               let d_is = far_is t four paired l lc f.ids (all_differ f) (corner_ids (all_differ f) far.held x) in
               (above_reads (product at a b e d)).0 (ap (λ (u : ℕ). above_zero (product at a b e u)) d_is ∙ f.in_front ((outer_reads t r).1 out));
         }
-
-  -- ---- triangle k of the list, by its words
-
-  module _ (rest : List ℕ) where
-    abbrev words : List ℕ
-    words = outward_words t at marks rest
-
-    pub facing_at : {k r c : ℕ} → Stands t (inside_in marks) k r c → Facing t at r c (listed_id words k 0) (listed_id words k 1) (listed_id words k 2)
-    facing_at {k} {r} {c} s =
-        at_words t four (inside_in marks) (triangle_as t true (some at)) (three_each t true (some at) four) rest s (Facing t at r c)
-        (facing s.row_below s.corner_below s.row_inside s.on_skin_lem)

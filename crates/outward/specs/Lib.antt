@@ -20,6 +20,8 @@
 --                front. Whether a listed triangle goes from x to y is then whether its third id is left or entered there, and of the two
 --                at x y one goes from x to y and the other from y to x.
 --     Outward    What is proved, for the crates above.
+-- Passed, Outward, and what of Signs and Facing rests on the signs of two neighbours and on the record Facing, stand in proofs/: so a wrong
+-- definition here is refused by a proof.
 pub mod Orders
 pub mod Row
 pub mod Signs
@@ -27,5 +29,3 @@ pub mod Flow
 pub mod EachWay
 pub mod Listed
 pub mod Facing
-pub mod Passed
-pub mod Outward

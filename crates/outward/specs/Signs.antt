@@ -1,7 +1,7 @@
--- The sign of the product at four ids, where no finite row is flat and no two finite neighbours are folded.
+-- The sign of the product at four ids, where no finite row is flat.
 use Rattle.std.specs.Prelude.{◌≡◌, refl, Bool, true, ◌&&◌, ◌||◌, map, ℤ, pos, negsuc, neg_ℤ}
 use Rattle.std.proofs.Common.{sym, ◌∙◌, arith, le-ltb, lt-ltb}
-use Rattle.std.proofs.Math.Path.{ap, ap₂, subst}
+use Rattle.std.proofs.Math.Path.{ap, subst}
 use Rattle.std.proofs.Math.Bool.{false, not, and_comm}
 use Prim.Native.Nat.{ℕ, zero, suc, ◌<◌}
 use Rattle.rules.specs.Below.{pick, gather, only}
@@ -16,8 +16,7 @@ use Rattle.rules.specs.Reading.Closed.{Paired, across_below}
 use Rattle.rules.specs.Reading.Skin.{Different, TriangleIds, triangle_of}
 use Rattle.whole.specs.Swap.{swap_ab, swap_bc, swap_cd}
 use Rattle.outward.specs.Orders.{in_any_order}
-use Rattle.outward.specs.Row.{FourIds, below_corners, own_ids, own_is, far_ids}
-use Rattle.outward.specs.EachWay.{Sided}
+use Rattle.outward.specs.Row.{FourIds, own_is}
 
 -- ---- a number and its opposite
 
@@ -37,7 +36,7 @@ zero_neg : (z : ℤ) → is_zero (neg_ℤ z) ≡ is_zero z
 unfolding is_zero
 zero_neg z = rw (below_neg z, above_neg z) (and_comm (not (above_zero z)) (not (below_zero z)))
 
-same_neg : (m n : ℤ) → same_sign (neg_ℤ m) (neg_ℤ n) ≡ same_sign m n
+pub same_neg : (m n : ℤ) → same_sign (neg_ℤ m) (neg_ℤ n) ≡ same_sign m n
 unfolding same_sign
 same_neg m n = rw (below_neg m, below_neg n, above_neg m, above_neg n) (or_back (above_zero m && above_zero n) (below_zero m && below_zero n))
   where
@@ -55,7 +54,7 @@ solid_above (pos (suc n)) e = rw (lt-ltb 0 (suc n) (omega arith), le-ltb (suc n)
 solid_above (negsuc n) e = refl
 
 -- of two that are not zero, if not both are on one side of it, one is on each
-other_side_lem : (m n : ℤ) → is_zero m ≡ false → is_zero n ≡ false → same_sign m n ≡ false → below_zero n ≡ not (below_zero m)
+pub other_side_lem : (m n : ℤ) → is_zero m ≡ false → is_zero n ≡ false → same_sign m n ≡ false → below_zero n ≡ not (below_zero m)
 unfolding same_sign
 other_side_lem m n p q e = go (below_zero m) (below_zero n) (rw (solid_above m p, solid_above n q) at e)
   where
@@ -68,11 +67,11 @@ other_side_lem m n p q e = go (below_zero m) (below_zero n) (rw (solid_above m p
 -- ---- the product at four ids
 
 module _ (at : ℕ → Point) where
-  swapped₁ : (a b c d : ℕ) → product at b a c d ≡ neg_ℤ (product at a b c d)
+  pub swapped₁ : (a b c d : ℕ) → product at b a c d ≡ neg_ℤ (product at a b c d)
   unfolding product
   swapped₁ a b c d = swap_ab (at a) (at b) (at c) (at d)
 
-  swapped₂ : (a b c d : ℕ) → product at a c b d ≡ neg_ℤ (product at a b c d)
+  pub swapped₂ : (a b c d : ℕ) → product at a c b d ≡ neg_ℤ (product at a b c d)
   unfolding product
   swapped₂ a b c d = swap_bc (at a) (at b) (at c) (at d)
 
@@ -97,7 +96,7 @@ module _ (at : ℕ → Point) where
   unfolding sign
   sign₁ a b c d s = ap below_zero (swapped₁ a b c d) ∙ below_neg (product at a b c d) ∙ solid_above (product at a b c d) s
 
-  sign₃ : (a b c d : ℕ) → is_zero (product at a b c d) ≡ false → sign a b d c ≡ not (sign a b c d)
+  pub sign₃ : (a b c d : ℕ) → is_zero (product at a b c d) ≡ false → sign a b d c ≡ not (sign a b c d)
   unfolding sign
   sign₃ a b c d s = ap below_zero (swapped₃ a b c d) ∙ below_neg (product at a b c d) ∙ solid_above (product at a b c d) s
 
@@ -113,7 +112,7 @@ module _ (at : ℕ → Point) where
   unfolding sign
   sign_rotated a b c d = exchanged_below b a c d ∙ ap above_zero (swapped₁ a b c d) ∙ above_neg (product at a b c d)
 
--- ---- in a table that codes 14 and 15 pass
+-- ---- in a table that code 14 passes
 
 module _ (t : Table) (four : t.corners ≡ 4) {id_count : ℕ} (paired : Paired t id_count) (at : ℕ → Point) (solid : (r : ℕ) → r < t.rows → flat t at r ≡ false) where
   -- the product at a triangle and the corner that is left out, by the row's corners in rising order
@@ -150,32 +149,3 @@ module _ (t : Table) (four : t.corners ≡ 4) {id_count : ℕ} (paired : Paired 
       subst (λ (u : ℕ). is_zero (product at x y w u) ≡ false) (sym (own_is t four paired l lc k i.three i))
       (in_any_order (λ a b c'. is_zero (product at a b c' (t.id s c)) ≡ false) (λ a b c' e. zero₁ at a b c' (t.id s c) ∙ e) (λ a b c' e. zero₂ at a b c' (t.id s c) ∙ e)
       t four lc k i.three own)
-
-  module _ (apart : (r : ℕ) → r < t.rows → folded t at r ≡ false) where
-    -- two finite rows at a triangle lie on opposite sides of it
-    pub opposed : {r c x y w : ℕ} → r < t.rows → c < 4 → outer t r ≡ false → outer t (across t r c) ≡ false → TriangleIds t r c x y w → Different x y w
-        → sign at x y w (far_id t r c) ≡ not (sign at x y w (t.id r c))
-    unfolding folded same_side side_of sign
-    opposed {r} {c} {x} {y} {w} l lc fin fin' i d =
-        other_side_lem (product at x y w v) (product at x y w v') (solid_row l fin (own_ids t four paired l lc i d))
-        (solid_row (across_below paired r c l (below_corners t four lc)) fin' (far_ids t four paired l lc i d))
-        (in_any_order (λ a b e. same_sign (product at a b e v) (product at a b e v') ≡ false)
-        (λ a b e q. ap₂ same_sign (swapped₁ at a b e v) (swapped₁ at a b e v') ∙ same_neg (product at a b e v) (product at a b e v') ∙ q)
-        (λ a b e q. ap₂ same_sign (swapped₂ at a b e v) (swapped₂ at a b e v') ∙ same_neg (product at a b e v) (product at a b e v') ∙ q)
-        t four lc i d tested)
-      where
-        v : ℕ
-        v = t.id r c
-
-        v' : ℕ
-        v' = far_id t r c
-
-        tested : same_sign (side_of at (triangle t r c) v) (side_of at (triangle t r c) v') ≡ false
-        tested = is_false _ (λ q. not_both (and_both (and_both (ap not fin) (ap not fin')) q) (any_none t.corners (same_side t at r) (apart r l) c (below_corners t four lc)))
-
-    -- the rows of a side that no outer row is of
-    pub is_sided : (on : ℕ → Bool) → ((s : ℕ) → s < t.rows → on s ≡ true → outer t s ≡ false) → Sided t four paired on (sign at)
-    is_sided on finite = record {
-      turned = λ x y w v s l o i. sign₃ at x y w v (solid_row l (finite s l o) i);
-      opposed = λ x y w r c l lc o o' i d. opposed l lc (finite r l o) (finite (across t r c) (across_below paired r c l (below_corners t four lc)) o') i d;
-    }

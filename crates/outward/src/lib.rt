@@ -1,2 +1,2 @@
-// No code: that the skin listed outward passes each edge once each way is proved in specs/.
+// No code: that the skin listed outward passes each edge once each way is proved in specs/ and proofs/.
 #![tactic(auto)]

@@ -24,9 +24,11 @@ use Rattle.rules.specs.Reading.Outward.{listed_id, Passes, either_way, three_eac
 use Rattle.outward.specs.Orders.{in_any_order}
 use Rattle.outward.specs.Row.{ids_first_exchanged, ids_last_exchanged, FourIds, first_exchanged, below_corners, three_held, id_below, side_held, held_side, own_ids, own_is, far_ids}
 use Rattle.outward.specs.EachWay.{Sided, up, up_is, one_each}
-use Rattle.outward.specs.Signs.{solid_above, sign, sign₁, sign_rotated, solid_row, opposed, is_sided}
+use Rattle.outward.specs.Signs.{solid_above, sign, sign₁, sign_rotated, solid_row}
 use Rattle.outward.specs.Listed.{outward_list, outward_words, Stands, stands, stands_at, stands_once, number_listed, at_words}
-use Rattle.outward.specs.Facing.{Facing, all_differ, across_outside, facing_at}
+use Rattle.outward.specs.Facing.{Facing, all_differ, across_outside}
+use Rattle.outward.proofs.Signs.{opposed, is_sided}
+use Rattle.outward.proofs.Facing.{facing_at}
 
 -- ---- three ids from each of them on
 

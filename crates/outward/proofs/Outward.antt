@@ -17,8 +17,9 @@ use Rattle.rules.specs.Reading.Ring.{clean_reads}
 use Rattle.rules.specs.Reading.Outward.{listed_id, Passes, FacesOutward}
 use Rattle.outward.specs.Row.{ids_first_exchanged, three_held, id_below}
 use Rattle.outward.specs.Listed.{stands, number_listed}
-use Rattle.outward.specs.Facing.{faces_outward, facing_at}
-use Rattle.outward.specs.Passed.{once}
+use Rattle.outward.specs.Facing.{faces_outward}
+use Rattle.outward.proofs.Facing.{facing_at}
+use Rattle.outward.proofs.Passed.{once}
 pub use Rattle.outward.specs.Listed.{as_rising, outward_list, outward_words}
 
 -- a skin triangle with its first two ids exchanged
