@@ -1,5 +1,6 @@
 // The three demands on one function, and the one possible result of each public call (settled).
 #![tactic(auto)]
+
 mod settled;
 mod workshop;
 

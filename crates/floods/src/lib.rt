@@ -1,5 +1,6 @@
 // Floods: what is reached is stamped and stands in a queue.
 #![tactic(auto)]
+
 ghost use Rattle.std.specs.Prelude.{◌≡◌, true, cond, ◌+◌, ◌<◌, set};
 
 // Stamps y and puts it into the queue, if it is fresh.

@@ -1,5 +1,6 @@
 // Growing: the five cases, and the answers to proposals.
 #![tactic(auto)]
+
 mod about;
 mod answering;
 mod cases;

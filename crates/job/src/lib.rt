@@ -1,5 +1,6 @@
 // The header of a job: counts, limits and offsets. Codes 1 to 4.
 #![tactic(auto)]
+
 ghost use Rattle.std.specs.Prelude.{◌≡◌, ◌+◌, ◌*◌, ◌≤◌, ◌<◌, length};
 ghost use Rattle.rules.specs.First.{first_match};
 ghost use Rattle.rules.specs.Job.{track, header_word, most_ids, most_rows, most_proposals, within, within_limits, laid_out, rows_at, marks_at, proposals_at, points_at, has_points, asks_outward, point_bytes, whole_length, work_room, list_room, short_rooms, layout_tests};

@@ -1,6 +1,7 @@
 // Document 01's jobs that are run and compared, and A and B. Each is run with buffers that are filled with 9s and, but for the rooms that are to be short, one
 // longer than needed. What is returned and all four buffers as left are printed.
 #![tactic(auto)]
+
 mod print;
 
 ghost use Rattle.std.specs.Prelude.{◌≤◌};

@@ -1,5 +1,6 @@
 // The listing of a job: the text that document 01 has printed of it.
 #![tactic(auto)]
+
 mod done;
 pub mod facets;
 mod text;

@@ -1,6 +1,7 @@
 // The listing program: standard input is one job, and its listing is printed. It tells on standard error what went wrong, and then no
 // listing stands that is not whole. A program of this language has no status; `tell` says how the script beside it finds out.
 #![tactic(auto)]
+
 use lines::{ROOM, list_job};
 use streams::input::read_input;
 use streams::output::{print_whole, tell};

@@ -1,5 +1,6 @@
 // The starting marks. Codes 10 to 12.
 #![tactic(auto)]
+
 ghost use Rattle.std.specs.Prelude.{◌≡◌, ◌≤◌, length};
 ghost use Rattle.rules.specs.Below.{lowest};
 ghost use Rattle.rules.specs.First.{first_match};

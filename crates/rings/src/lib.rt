@@ -1,5 +1,6 @@
 // Rings: whether the far edges of a skin vertex form one ring.
 #![tactic(auto)]
+
 mod ring;
 mod tallies;
 

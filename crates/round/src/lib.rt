@@ -1,5 +1,6 @@
 // The rows about an edge, walked through the neighbour list.
 #![tactic(auto)]
+
 ghost use Rattle.std.specs.Prelude.{◌≡◌, ◌≢◌, ◌≤◌, ◌<◌, length};
 ghost use Rattle.rules.specs.Proposals.{inside_in};
 ghost use Rattle.rules.specs.Table.{across};

@@ -1,5 +1,6 @@
 // The table: rows, neighbours, and the rules of a closed table. Codes 5 to 9.
 #![tactic(auto)]
+
 mod across;
 mod chains;
 pub mod faces;

@@ -1,6 +1,7 @@
 // Corner tallies: behind the neighbour list the work area has for each id the number of inside rows that hold it, and then for each id the
 // number of all rows that do. The work area is lent whole.
 #![tactic(auto)]
+
 ghost use Rattle.std.specs.Prelude.{◌≡◌, true, false, cond, List, ℕ, ◌+◌, ◌*◌, ◌≤◌, ◌<◌, set};
 ghost use Rattle.rules.specs.Below.{bit};
 ghost use Rattle.rules.specs.Cases.{other_side};

@@ -1,5 +1,6 @@
 // The run: a job is read, its table, its marks and its points are checked, its proposals are answered and its skin is listed.
 #![tactic(auto)]
+
 mod grown;
 
 ghost use Rattle.std.specs.Prelude.{◌≡◌, ◌≤◌, length};

@@ -1,5 +1,6 @@
 // The run and binary STL, for C and Rust.
 #![tactic(auto)]
+
 mod files;
 mod told;
 

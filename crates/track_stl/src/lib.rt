@@ -1,5 +1,6 @@
 // The job's writer: a job is run, and its skin is written as binary STL, outward.
 #![tactic(auto)]
+
 mod corners;
 
 ghost use Rattle.std.specs.Prelude.{◌≡◌, true, ◌*◌, ◌≤◌, length};

@@ -1,5 +1,6 @@
 // Small functions on values, and the answer of a search.
 #![tactic(auto)]
+
 ghost use Rattle.std.specs.Prelude.{◌≡◌, cond};
 
 // The first place of a search, or none.

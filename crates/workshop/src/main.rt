@@ -2,6 +2,7 @@
 // tells on standard error what failed, and then nothing stands on standard output that is not whole; a refusal goes to the script beside
 // it alone, so that it has nothing there either.
 #![tactic(auto)]
+
 mod read;
 mod said;
 mod write;

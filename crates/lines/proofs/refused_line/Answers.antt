@@ -10,5 +10,5 @@ put_line-requires c = omega (arith, c.requires, refused_few c.args.numbers.now (
 pub returns : goal.returns
 returns c =
     let room : length (line word_refused c.args.numbers.now) ≤ length c.args.out.now
-            = omega (arith, c.requires, refused_few c.args.numbers.now (λ k. omega (arith, c.type_inv.numbers k))) in
+    = omega (arith, c.requires, refused_few c.args.numbers.now (λ k. omega (arith, c.type_inv.numbers k))) in
     put_front c.put_line.ensures room

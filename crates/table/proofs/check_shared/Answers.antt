@@ -14,15 +14,13 @@ check_joined-requires c =
 
 pub returns-in-At : goal.returns-in-At
 unfolding left_of
-returns-in-At c =
-    (
-      triangle_broken _ _ c.neighbours.ensures.0 c.in-At.is,
-      c.clear.ensures ∙ ap (λ (n : ℕ). replicate n 0) c.neighbours.ensures.1.kept ∙ zeros_left _ _ c.requires.1,
-    )
+returns-in-At c = (
+  triangle_broken _ _ c.neighbours.ensures.0 c.in-At.is,
+  c.clear.ensures ∙ ap (λ (n : ℕ). replicate n 0) c.neighbours.ensures.1.kept ∙ zeros_left _ _ c.requires.1,
+)
 
 pub returns-in-Nowhere : goal.returns-in-Nowhere
-returns-in-Nowhere c =
-    (
-      c.check_joined.ensures.0 ∙ sym (triangle_fine _ _ c.neighbours.ensures.0 c.in-Nowhere.is),
-      c.check_joined.ensures.1 ∙ ap (left_of _) (c.neighbours.ensures.1.list c.in-Nowhere.is),
-    )
+returns-in-Nowhere c = (
+  c.check_joined.ensures.0 ∙ sym (triangle_fine _ _ c.neighbours.ensures.0 c.in-Nowhere.is),
+  c.check_joined.ensures.1 ∙ ap (left_of _) (c.neighbours.ensures.1.list c.in-Nowhere.is),
+)
