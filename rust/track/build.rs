@@ -13,13 +13,13 @@ fn main() {
     println!("cargo::rustc-check-cfg=cfg(linked)");
     let folder = match env::var_os("TRACK_C_DIR") {
         Some(folder) => PathBuf::from(folder),
-        None => cargo_path("CARGO_MANIFEST_DIR").join("../../target/staticlib"),
+        None => cargo_path("CARGO_MANIFEST_DIR").join("../../crates/track_c/out"),
     };
     let archive = folder.join("libtrack_c.a");
     println!("cargo::rerun-if-changed={}", archive.display());
     if !archive.is_file() {
         println!(
-            "cargo::error={} is missing: run `rt staticlib track_c` in the repository's root, \
+            "cargo::error={} is missing: run `rt lib` in crates/track_c, \
              or set TRACK_C_DIR to the folder that holds it",
             archive.display()
         );
