@@ -14,7 +14,8 @@ use Rattle.rules.specs.Reading.Outer.{OuterAlike, one_outer}
 use Rattle.rules.specs.Reading.Skin.{inside_reads}
 use Rattle.rules.specs.Reading.Room.{skin_same_length, skin_listed, skin_words}
 use Rattle.rules.specs.Reading.Listing.{finite_skin}
-use Rattle.rules.specs.Reading.Outward.{three_each, listed_ids}
+use Rattle.rules.specs.Reading.Outward.{three_each}
+use Rattle.rules.proofs.Reading.Outward.{listed_ids}
 use Rattle.manifold.specs.Jobs.{job_alike}
 use Rattle.track.specs.declared.Outcome.{Outcome}
 use Rattle.track.specs.Outcomes.{result_of}

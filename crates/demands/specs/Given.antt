@@ -2,7 +2,8 @@
 use Rattle.std.specs.Prelude.{◌≡◌, refl, ◌≢◌, List, ℕ}
 use Rattle.std.proofs.Common.{sym, ap, ◌∙◌}
 use Rattle.rules.specs.Job.{track, Lent, Result, run}
-use Rattle.rules.specs.Reading.Codes.{run_code_below, code_exactly, accepted_exactly, refusal_keeps, early_refusal, late_refusal}
+use Rattle.rules.specs.Reading.Codes.{run_code_below, refusal_keeps, early_refusal, late_refusal}
+use Rattle.rules.proofs.Reading.Codes.{code_exactly, accepted_exactly}
 use Rattle.track.specs.declared.Outcome.{Outcome}
 use Rattle.track.specs.Outcomes.{result_of}
 use Rattle.demands.specs.Demands.{Demand1}

@@ -9,11 +9,12 @@ use Rattle.rules.specs.Job.{track, header_of, Job, job_of, answers_of, standing,
 use Rattle.rules.specs.Laws.Count.{TheOther}
 use Rattle.rules.specs.Laws.Written.{written_at}
 use Rattle.rules.specs.Laws.Proposals.{answer_at, final_more}
-use Rattle.rules.specs.Laws.Job.{job_corners, job_rows, job_proposals, job_answers}
+use Rattle.rules.specs.Laws.Job.{job_corners, job_rows, job_proposals}
+use Rattle.rules.proofs.Laws.Job.{job_answers}
 use Rattle.rules.specs.Reading.Neighbours.{Side}
 use Rattle.rules.specs.Reading.Closed.{across_is, across_other}
 use Rattle.rules.specs.Reading.Work.{work_length, work_across}
-use Rattle.rules.specs.Reading.Answers.{answer_exactly, taken_exactly}
+use Rattle.rules.proofs.Reading.Answers.{answer_exactly, taken_exactly}
 use Rattle.rules.specs.Reading.Skin.{inside_reads}
 use Rattle.rules.specs.Reading.Room.{skin_same_length, skin_once, skin_listed}
 use Rattle.rules.specs.Reading.Listing.{triangle_rises, sides_listed, skin_order}

@@ -17,7 +17,8 @@ use Rattle.rules.specs.Reading.Skin.{Inside, SkinTriangle}
 use Rattle.rules.specs.Reading.Outer.{OuterAlike}
 use Rattle.rules.specs.Reading.Room.{skin_same_length}
 use Rattle.rules.specs.Reading.Outward.{listed_id, Passes, FacesOutward, rising_unless}
-use Rattle.rules.specs.Reading.File.{outward_exactly, outward_points}
+use Rattle.rules.specs.Reading.File.{outward_exactly}
+use Rattle.rules.proofs.Reading.File.{outward_points}
 use Rattle.rules.specs.Reading.Codes.{accepted_points}
 use Rattle.manifold.proofs.Jobs.{job_every_step}
 use Rattle.outward.proofs.Outward.{as_rising, outward_list, outward_words, faces, each_way}

@@ -9,12 +9,14 @@ use Rattle.rules.specs.Job.{track, header_of, Job, job_of, answers_of, standing,
 use Rattle.rules.specs.Made.{with_proposals, cut_to, remade}
 use Rattle.rules.specs.Laws.Truth.{is_false, not_both}
 use Rattle.rules.specs.Laws.Proposals.{answers_length, final_length, taken_few}
-use Rattle.rules.specs.Laws.Job.{job_corners, job_rows, job_answers}
+use Rattle.rules.specs.Laws.Job.{job_corners, job_rows}
+use Rattle.rules.proofs.Laws.Job.{job_answers}
 use Rattle.rules.specs.Laws.Made.{track_small}
 use Rattle.rules.specs.Reading.Skin.{inside_reads}
-use Rattle.rules.specs.Reading.Ring.{clean_plain}
+use Rattle.rules.proofs.Reading.Ring.{clean_plain}
 use Rattle.rules.specs.Reading.Answers.{triangles_read}
-use Rattle.rules.specs.Reading.Codes.{RoomShort, accepted_header, accepted_length}
+use Rattle.rules.specs.Reading.Codes.{RoomShort}
+use Rattle.rules.proofs.Reading.Codes.{accepted_header, accepted_length}
 use Rattle.manifold.specs.Steps.{flipped, taken_earlier, refused_earlier, undoing, undoing_front, undoing_length}
 use Rattle.manifold.specs.Jobs.{cut_run}
 use Rattle.manifold.proofs.Jobs.{job_every_step, job_five_cases, job_backwards, undone_run}

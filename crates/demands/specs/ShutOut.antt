@@ -6,7 +6,7 @@ use Rattle.rules.specs.Words.{word}
 use Rattle.rules.specs.Cases.{triangles_on_skin}
 use Rattle.rules.specs.Proposals.{inside_in, RefusedByCases, taken}
 use Rattle.rules.specs.Job.{track, header_of, job_of, standing, final_of, skin_with, Lent, Result, run}
-use Rattle.rules.specs.Reading.Codes.{code_exactly}
+use Rattle.rules.proofs.Reading.Codes.{code_exactly}
 use Rattle.rules.specs.Worked.{Worked, ran}
 use Rattle.rules.specs.Worked.Document.{whole_a, document_jobs_lem}
 use Rattle.rules.specs.Worked.Ours.{removes_d, answer_jobs_lem}

@@ -9,7 +9,8 @@ use Rattle.rules.specs.Made.{with_proposals, cut_to}
 use Rattle.rules.specs.Laws.Written.{written_at}
 use Rattle.rules.specs.Laws.Job.{job_ids, job_corners, job_rows}
 use Rattle.rules.specs.Laws.Made.{track_small}
-use Rattle.rules.specs.Reading.Codes.{RoomShort, accepted_header}
+use Rattle.rules.specs.Reading.Codes.{RoomShort}
+use Rattle.rules.proofs.Reading.Codes.{accepted_header}
 use Rattle.rules.specs.Reading.Work.{work_length, work_inside, work_every, inside_tallied, every_tallied}
 use Rattle.manifold.specs.Jobs.{cut_run}
 use Rattle.track.specs.declared.Outcome.{Outcome}

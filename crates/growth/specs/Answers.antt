@@ -12,7 +12,8 @@ use Rattle.rules.specs.Job.{proposal_in, written}
 use Rattle.rules.specs.Words.{word}
 use Rattle.rules.specs.Laws.Lists.{tabulate_more, tabulate_length}
 use Rattle.rules.specs.Laws.Count.{bit_small}
-use Rattle.rules.specs.Laws.Proposals.{answer_is, final_length, final_more, answers_length, answers_more, taken_more, taken_few}
+use Rattle.rules.specs.Laws.Proposals.{answer_is, final_length, final_more, answers_length, taken_more, taken_few}
+use Rattle.rules.proofs.Laws.Proposals.{answers_more}
 use Rattle.rules.specs.Laws.Written.{written_none, written_length, written_snoc}
 use Rattle.table.specs.Rows.{table_in}
 use Rattle.tallies.specs.Area.{Area}

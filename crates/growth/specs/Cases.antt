@@ -8,7 +8,8 @@ use Rattle.rules.specs.Cases.{other_side, free, triangles_on_skin, passes, case_
 use Rattle.rules.specs.Proposals.{inside_in}
 use Rattle.rules.specs.Laws.Count.{count_same}
 use Rattle.rules.specs.Laws.Lists.{pick_same}
-use Rattle.rules.specs.Laws.Cases.{more_pass, case_answer_lem}
+use Rattle.rules.specs.Laws.Cases.{more_pass}
+use Rattle.rules.proofs.Laws.Cases.{case_answer_lem}
 use Rattle.table.specs.Rows.{table_in, rows_in}
 use Rattle.table.specs.Ground.{Ground}
 use Rattle.skin.specs.Between.{between, between_skin}

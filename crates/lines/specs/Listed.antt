@@ -8,13 +8,15 @@ use Rattle.rules.specs.First.{first_match}
 use Rattle.rules.specs.Outward.{triangle_as}
 use Rattle.rules.specs.Proposals.{inside_in, taken}
 use Rattle.rules.specs.Job.{track, header_of, most_rows, most_proposals, job_of, answers_of, final_of, listed_of, layout_tests, Result, written, accepted, run}
-use Rattle.rules.specs.Laws.Job.{job_corners, job_answers}
+use Rattle.rules.specs.Laws.Job.{job_corners}
+use Rattle.rules.proofs.Laws.Job.{job_answers}
 use Rattle.rules.specs.Laws.Lists.{gather_same}
 use Rattle.rules.specs.Laws.Written.{written_at}
 use Rattle.rules.specs.Reading.Room.{skin_words}
 use Rattle.rules.specs.Reading.Outward.{three_each}
-use Rattle.rules.specs.Reading.Codes.{run_accepted, run_code, layout_passed, accepted_header}
-use Rattle.rules.specs.Reading.Small.{triangles_small}
+use Rattle.rules.specs.Reading.Codes.{run_accepted, run_code, layout_passed}
+use Rattle.rules.proofs.Reading.Codes.{accepted_header}
+use Rattle.rules.proofs.Reading.Small.{triangles_small}
 use Rattle.track.specs.declared.Outcome.{Outcome}
 use Rattle.track.specs.Outcomes.{lent, result_of}
 use Rattle.lines.specs.Listing.{answer_line, answer_lines, triangle_line, triangle_lines, done_text, refused_text, listing, zeros, listing_of}

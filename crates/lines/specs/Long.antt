@@ -10,7 +10,8 @@ use Rattle.rules.specs.Job.{Header, track, header_of, within_limits, rows_at, la
 use Rattle.rules.specs.Laws.Truth.{true_or_false, is_false}
 use Rattle.rules.specs.Laws.Words.{word_part}
 use Rattle.rules.specs.Laws.Job.{points_few}
-use Rattle.rules.specs.Reading.Codes.{limits_read, laid_out_reads}
+use Rattle.rules.specs.Reading.Codes.{limits_read}
+use Rattle.rules.proofs.Reading.Codes.{laid_out_reads}
 use Rattle.track.specs.Outcomes.{refusal, result_of}
 use Rattle.track.specs.Headers.{header_refused}
 use Rattle.lines.specs.Listing.{zeros, listing_of}

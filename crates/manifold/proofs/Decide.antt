@@ -9,7 +9,8 @@ use Rattle.rules.specs.Cases.{passes}
 use Rattle.rules.specs.Laws.Truth.{not_both, is_false, is_true, same_test, same_or_not}
 use Rattle.rules.specs.Laws.Count.{count_zero, count_one, count_two, count_not}
 use Rattle.rules.specs.Reading.Closed.{Closed}
-use Rattle.rules.specs.Reading.Answers.{Refuses, neither_holds, passes_reads}
+use Rattle.rules.specs.Reading.Answers.{Refuses, neither_holds}
+use Rattle.rules.proofs.Reading.Answers.{passes_reads}
 use Rattle.manifold.specs.Facet.{FlipAt}
 use Rattle.manifold.specs.Triangle.{Rings}
 use Rattle.manifold.specs.Sides.{below_four}

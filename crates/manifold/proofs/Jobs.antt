@@ -8,12 +8,15 @@ use Rattle.rules.specs.Made.{with_proposals, remade_job, remade}
 use Rattle.rules.specs.Laws.Lists.{Among}
 use Rattle.rules.specs.Laws.First.{match_parts, match_both}
 use Rattle.rules.specs.Laws.Proposals.{answers_length, taken_few}
-use Rattle.rules.specs.Laws.Job.{job_corners, job_rows, job_answers}
-use Rattle.rules.specs.Laws.Made.{remade_header, remade_laid, remade_job_lem}
+use Rattle.rules.specs.Laws.Job.{job_corners, job_rows}
+use Rattle.rules.proofs.Laws.Job.{job_answers}
+use Rattle.rules.specs.Laws.Made.{remade_header}
+use Rattle.rules.proofs.Laws.Made.{remade_laid, remade_job_lem}
 use Rattle.rules.specs.Reading.Closed.{Closed}
 use Rattle.rules.specs.Reading.Skin.{inside_reads}
-use Rattle.rules.specs.Reading.Ring.{clean_plain}
-use Rattle.rules.specs.Reading.Codes.{RoomShort, marks_fit, run_as, sections_passed, points_passed, accepted_closed, accepted_marks, accepted_outer, accepted_clean, accepted_length}
+use Rattle.rules.proofs.Reading.Ring.{clean_plain}
+use Rattle.rules.specs.Reading.Codes.{RoomShort, sections_passed, points_passed, accepted_marks, accepted_clean}
+use Rattle.rules.proofs.Reading.Codes.{marks_fit, run_as, accepted_closed, accepted_outer, accepted_length}
 use Rattle.manifold.specs.Steps.{Marks, undoing, undoing_length, taken_known, alike_kept}
 use Rattle.manifold.specs.Jobs.{EveryStep, CasesDecide, Backwards, limits, laid}
 use Rattle.manifold.proofs.Steps.{five_cases, every_step, backwards, all_steps}

@@ -5,7 +5,8 @@ use Rattle.rules.specs.Table.{Table}
 use Rattle.rules.specs.Skin.{clean, skin_vertex}
 use Rattle.rules.specs.Laws.Truth.{true_or_false, not_both}
 use Rattle.rules.specs.Reading.Closed.{Closed}
-use Rattle.rules.specs.Reading.Ring.{OneRing, ring_map, FarEdge, clean_reads, off_skin_ring}
+use Rattle.rules.specs.Reading.Ring.{OneRing, ring_map, FarEdge, off_skin_ring}
+use Rattle.rules.proofs.Reading.Ring.{clean_reads}
 use Rattle.manifold.specs.Ring.{Edges, Ring, empty_ring, ring_reads}
 use Rattle.manifold.specs.Triangle as By
 use Rattle.manifold.specs.Triangle.{skin_back, far_skin, ends_below}

@@ -10,7 +10,8 @@ use Rattle.rules.specs.Laws.Truth.{not_both, is_false, is_true, same_test, same_
 use Rattle.rules.specs.Laws.Count.{count_zero, count_one, count_two, count_not, count_without, without, is_without}
 use Rattle.rules.specs.Reading.Rows.{one_corner, Holds}
 use Rattle.rules.specs.Reading.Closed.{Closed}
-use Rattle.rules.specs.Reading.Answers.{Refuses, neither_holds, passes_reads}
+use Rattle.rules.specs.Reading.Answers.{Refuses, neither_holds}
+use Rattle.rules.proofs.Reading.Answers.{passes_reads}
 use Rattle.manifold.specs.Facet.{FlipAt, same_mark, not_differs}
 use Rattle.manifold.specs.Triangle.{On, Skin}
 

@@ -8,13 +8,16 @@ use Rattle.rules.specs.Made.{with_proposals, remade_job, cut_job, cut_to, remade
 use Rattle.rules.specs.Laws.Lists.{Among}
 use Rattle.rules.specs.Laws.First.{match_parts, match_both}
 use Rattle.rules.specs.Laws.Proposals.{answers_length, taken_few}
-use Rattle.rules.specs.Laws.Job.{job_corners, job_rows, job_answers}
-use Rattle.rules.specs.Laws.Made.{cut_header, cut_laid, cut_job_lem, remade_header, remade_laid, remade_job_lem}
+use Rattle.rules.specs.Laws.Job.{job_corners, job_rows}
+use Rattle.rules.proofs.Laws.Job.{job_answers}
+use Rattle.rules.specs.Laws.Made.{cut_header, remade_header}
+use Rattle.rules.proofs.Laws.Made.{cut_laid, cut_job_lem, remade_laid, remade_job_lem}
 use Rattle.rules.specs.Reading.Closed.{Closed}
 use Rattle.rules.specs.Reading.Skin.{inside_reads}
 use Rattle.rules.specs.Reading.Outer.{OuterAlike}
-use Rattle.rules.specs.Reading.Ring.{clean_plain}
-use Rattle.rules.specs.Reading.Codes.{WithinLimits, LaidOut, RoomShort, marks_fit, run_as, sections_passed, points_passed, accepted_closed, accepted_marks, accepted_outer, accepted_clean, accepted_header, accepted_length}
+use Rattle.rules.proofs.Reading.Ring.{clean_plain}
+use Rattle.rules.specs.Reading.Codes.{WithinLimits, LaidOut, RoomShort, sections_passed, points_passed, accepted_marks, accepted_clean}
+use Rattle.rules.proofs.Reading.Codes.{marks_fit, run_as, accepted_closed, accepted_outer, accepted_header, accepted_length}
 use Rattle.manifold.specs.Steps.{PassesEarlier, flipped, AllTaken, undoing, alike_kept}
 
 -- After each proposal, and before the first, the far edges at each skin corner form one single ring.

@@ -16,13 +16,14 @@ use Rattle.rules.specs.Cases.{other_side, triangles_on_skin, passes, case_answer
 use Rattle.rules.specs.Proposals.{Proposal, inside_in, adds, answer, RefusedByCases, marks_after, answers_to, final_marks, taken}
 use Rattle.rules.specs.Laws.Truth.{is_false, same_or_not, or_reads, eqb_reads}
 use Rattle.rules.specs.Laws.Lists.{Among, only_length}
-use Rattle.rules.specs.Laws.Cases.{passed_exactly, refused_exactly, refused_at_exactly}
+use Rattle.rules.proofs.Laws.Cases.{passed_exactly, refused_exactly, refused_at_exactly}
 use Rattle.rules.specs.Laws.Proposals.{answer_is, answers_append, final_append, set_inside, set_elsewhere}
 use Rattle.rules.specs.Laws.First.{condition_at}
 use Rattle.rules.specs.Reading.Rows.{Holds, holds_reads}
 use Rattle.rules.specs.Reading.Closed.{Closed}
 use Rattle.rules.specs.Reading.Outer.{OuterAlike}
-use Rattle.rules.specs.Reading.Answers.{answer_conditions, other_side_reads, other_reads, answer_exactly, taken_exactly}
+use Rattle.rules.specs.Reading.Answers.{answer_conditions, other_side_reads, other_reads}
+use Rattle.rules.proofs.Reading.Answers.{answer_exactly, taken_exactly}
 use Rattle.manifold.specs.Facet.{FlipAt, not_differs, differs_not}
 
 -- ---- a flipped mark

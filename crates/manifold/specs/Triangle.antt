@@ -10,7 +10,8 @@ use Rattle.rules.specs.Reading.Rows.{Holds}
 use Rattle.rules.specs.Reading.Neighbours.{Side, side_reads}
 use Rattle.rules.specs.Reading.Closed.{Closed, across_is}
 use Rattle.rules.specs.Reading.Skin.{as_tested, skin_reads, skin_between_sides, Different, TriangleIds, SkinTriangle, three_reads, triangle_rows, triangle_of, skin_far, far_reads}
-use Rattle.rules.specs.Reading.Ring.{OneRing, ring_map, FarEdge, clean_reads, off_skin_ring}
+use Rattle.rules.specs.Reading.Ring.{OneRing, ring_map, FarEdge, off_skin_ring}
+use Rattle.rules.proofs.Reading.Ring.{clean_reads}
 use Rattle.manifold.specs.Facet.{FlipAt, flip_back, Split, split_flips, split_kept, split_map}
 use Rattle.manifold.specs.Ring.{Edges, Ring, Flipped}
 

@@ -13,7 +13,7 @@ use Rattle.rules.specs.Laws.Count.{ExactlyOne, two_count}
 use Rattle.rules.specs.Reading.Closed.{Paired}
 use Rattle.rules.specs.Reading.Skin.{Inside, inside_reads, SkinTriangle, far_reads}
 use Rattle.rules.specs.Reading.Outer.{OuterAlike}
-use Rattle.rules.specs.Reading.Ring.{clean_reads}
+use Rattle.rules.proofs.Reading.Ring.{clean_reads}
 use Rattle.rules.specs.Reading.Outward.{listed_id, Passes, FacesOutward}
 use Rattle.outward.specs.Row.{ids_first_exchanged, three_held, id_below}
 use Rattle.outward.specs.Listed.{stands, number_listed}

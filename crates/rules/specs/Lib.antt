@@ -15,7 +15,8 @@
 --     Made        job files made from their parts
 --     Stl         binary STL: the file, the facet writer, the reader, the job's writer
 -- Laws holds what follows from the definitions one by one. Reading says each sentence of document 01 in plain relations and proves it
--- equal in meaning to its definition. Worked holds document 01's jobs with known results, and further ones, as computed theorems.
+-- equal in meaning to its definition. What rests on these theorems in turn stands in `proofs/`, so that a wrong definition is refused by a
+-- proof of it. Worked holds document 01's jobs with known results, and further ones, as computed theorems.
 pub mod Below
 pub mod Words
 pub mod Shape

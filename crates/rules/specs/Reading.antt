@@ -1,4 +1,5 @@
--- Document 01 in plain relations, each proved equal in meaning to the definition that computes it:
+-- Document 01 in plain relations, each proved equal in meaning to the definition that computes it (here, or in `proofs.Reading` where the
+-- proof rests on another one):
 --     Rows        rising rows, ids below V, dictionary order, holding an id
 --     Neighbours  neighbours, and that they are mutual
 --     Closed      the triangle, edge and vertex rules; the row across; the closed table
@@ -14,8 +15,7 @@
 --     Room        at most 2N triangles, each once
 --     Listing     the skin list: the triangles between the sides, from either row
 --     Outward     triangles that pass from an id to another, and that face outward
---     Order       which order a job asks for changes nothing but the order
---     Small       how large what a run gives can be
+--     Order       files and runs that differ in the order that is asked for alone
 --     File        where an id, a mark, a proposal and a point stand in the job file, and what its word 7 says
 pub mod Rows
 pub mod Neighbours
@@ -33,5 +33,4 @@ pub mod Room
 pub mod Listing
 pub mod Outward
 pub mod Order
-pub mod Small
 pub mod File

@@ -9,7 +9,7 @@ use Rattle.rules.specs.First.{Test, Verdict, first_match}
 use Rattle.rules.specs.Job.{most_rows, bad_row, not_after, table_tests, written}
 use Rattle.rules.specs.Laws.Written.{written_length, written_at}
 use Rattle.rules.specs.Reading.Closed.{list_length, list_at}
-use Rattle.rules.specs.Reading.Codes.{none_paired}
+use Rattle.rules.proofs.Reading.Codes.{none_paired}
 use Rattle.rules.specs.Laws.First.{match_here, match_later, match_end}
 use Rattle.rules.specs.Laws.Below.{lowest_same}
 use Rattle.values.specs.declared.Found.{Found}

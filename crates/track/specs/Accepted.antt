@@ -6,7 +6,8 @@ use mathlib.Core.List.{List, flatten}
 use Rattle.rules.specs.Proposals.{taken}
 use Rattle.rules.specs.Job.{track, Job, job_of, answers_of, final_of, listed_of, work_with, Lent, written, Result, accepted, run}
 use Rattle.rules.specs.Reading.Closed.{Closed}
-use Rattle.rules.specs.Reading.Codes.{run_accepted, run_code, accepted_closed}
+use Rattle.rules.specs.Reading.Codes.{run_accepted, run_code}
+use Rattle.rules.proofs.Reading.Codes.{accepted_closed}
 use Rattle.track.specs.declared.Outcome.{Outcome}
 use Rattle.track.specs.Outcomes.{result_of}
 

@@ -10,7 +10,8 @@ use Rattle.rules.specs.Job.{track, header_of, within_limits, laid_out, short_roo
 use Rattle.rules.specs.Laws.Truth.{not_both}
 use Rattle.rules.specs.Laws.First.{match_append, match_below, match_front, match_here, match_later}
 use Rattle.rules.specs.Reading.Work.{work_length}
-use Rattle.rules.specs.Reading.Codes.{limits_read, laid_out_reads, RoomShort, room_reads}
+use Rattle.rules.specs.Reading.Codes.{limits_read, RoomShort, room_reads}
+use Rattle.rules.proofs.Reading.Codes.{laid_out_reads}
 use Rattle.job.specs.declared.Header.{Header}
 use Rattle.job.specs.declared.Reading.{Reading}
 use Rattle.job.specs.declared.Reading.TheVariants.{Laid}

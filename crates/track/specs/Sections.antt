@@ -13,7 +13,7 @@ use Rattle.rules.specs.Laws.First.{match_append, match_front}
 use Rattle.rules.specs.Laws.Lists.{part_length}
 use Rattle.rules.specs.Laws.Written.{written_length, written_at, written_over}
 use Rattle.rules.specs.Reading.Closed.{Closed, list_length, list_at}
-use Rattle.rules.specs.Reading.Codes.{closed_reads}
+use Rattle.rules.proofs.Reading.Codes.{closed_reads}
 use Rattle.rules.specs.Reading.Work.{list_shorter}
 use Rattle.job.specs.declared.Header.{Header}
 use Rattle.job.specs.Reading.{meant}

@@ -12,7 +12,7 @@ use Rattle.rules.specs.Laws.Truth.{or_no_first, or_no_second}
 use Rattle.rules.specs.Laws.Below.{lowest_is}
 use Rattle.rules.specs.Laws.First.{match_below}
 use Rattle.rules.specs.Reading.Codes.{run_code_below}
-use Rattle.rules.specs.Reading.Small.{place_small, taken_small, triangles_small}
+use Rattle.rules.proofs.Reading.Small.{place_small, taken_small, triangles_small}
 
 -- ---- a run, and a run whose skin is written
 

@@ -24,7 +24,8 @@ use Rattle.rules.specs.Laws.Proposals.{final_length}
 use Rattle.rules.specs.Laws.Written.{written_length, written_at, written_over}
 use Rattle.rules.specs.Reading.Closed.{Paired, Closed}
 use Rattle.rules.specs.Reading.Work.{work_length, work_across}
-use Rattle.rules.specs.Reading.Codes.{RoomShort, layout_passed, accepted_room, accepted_grid, accepted_header, accepted_length}
+use Rattle.rules.specs.Reading.Codes.{RoomShort, layout_passed, accepted_grid}
+use Rattle.rules.proofs.Reading.Codes.{accepted_room, accepted_header, accepted_length}
 use Rattle.rules.specs.Reading.Room.{skin_same_length, skin_words, skin_fits}
 use Rattle.rules.specs.Reading.Outward.{three_each}
 use Rattle.job.specs.declared.Header.{Header}

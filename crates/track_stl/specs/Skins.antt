@@ -15,7 +15,8 @@ use Rattle.rules.specs.Laws.Lists.{Among, among_at, flatten_in}
 use Rattle.rules.specs.Laws.Written.{written_length, written_at, written_over}
 use Rattle.rules.specs.Reading.Skin.{inside_reads}
 use Rattle.rules.specs.Reading.Room.{skin_same_length, skin_listed, skin_words, skin_fits, holds_triangle}
-use Rattle.rules.specs.Reading.Outward.{three_each, listed_ids}
+use Rattle.rules.specs.Reading.Outward.{three_each}
+use Rattle.rules.proofs.Reading.Outward.{listed_ids}
 use Rattle.table.specs.Rows.{table_in, rows_in}
 use Rattle.table.specs.Ground.{Ground}
 use Rattle.track_stl.specs.Corners.{triangle_facet, Below, triangles_file}

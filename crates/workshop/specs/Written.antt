@@ -22,7 +22,7 @@ use Rattle.rules.specs.Laws.Job.{job_corners}
 use Rattle.rules.specs.Laws.Stl.{file_length_lem}
 use Rattle.rules.specs.Reading.Room.{skin_words}
 use Rattle.rules.specs.Reading.Outward.{three_each}
-use Rattle.rules.specs.Reading.Small.{triangles_small}
+use Rattle.rules.proofs.Reading.Small.{triangles_small}
 use Rattle.track.specs.declared.Outcome.{Outcome}
 use Rattle.track.specs.Outcomes.{lent, result_of}
 use Rattle.track_stl.specs.Corners.{three_units}

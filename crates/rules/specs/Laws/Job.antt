@@ -1,11 +1,10 @@
 -- Laws of a job: what is in it by its form and its header.
 use Rattle.std.specs.Prelude.{◌≡◌, Bool, true, false, cond, List, ℕ, ◌*◌, ◌≤◌, length}
 use Rattle.std.proofs.Math.Path.{refl}
-use Rattle.std.proofs.Common.{◌∙◌, zero-le, le_refl}
+use Rattle.std.proofs.Common.{zero-le, le_refl}
 use Rattle.rules.specs.Table.{table_of}
-use Rattle.rules.specs.Job.{Form, Header, header_of, has_points, asks_outward, point_bytes, rows_table, job_of, answers_of}
+use Rattle.rules.specs.Job.{Form, Header, header_of, has_points, asks_outward, point_bytes, rows_table, job_of}
 use Rattle.rules.specs.Laws.Lists.{tabulate_length}
-use Rattle.rules.specs.Laws.Proposals.{answers_length}
 
 -- six bytes for each id, or none
 pub points_few : (f : Form) (h : Header) → point_bytes f h ≤ 6 * h.ids
@@ -37,7 +36,3 @@ module _ (f : Form) (bytes : List ℕ) where
   pub job_proposals : length (job_of f bytes).proposals ≡ (header_of bytes).proposals
   unfolding job_of
   job_proposals = tabulate_length (header_of bytes).proposals _
-
-  -- one answer for each proposal
-  pub job_answers : length (answers_of (job_of f bytes)) ≡ (header_of bytes).proposals
-  job_answers = answers_length (job_of f bytes).table (job_of f bytes).marks (job_of f bytes).proposals ∙ job_proposals

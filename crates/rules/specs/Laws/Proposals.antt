@@ -64,10 +64,6 @@ module _ (t : Table) where
   unfolding final_marks
   final_more marks ps p = final_append marks ps (p ∷ [])
 
-  pub answers_more : (marks : List ℕ) (ps : List Proposal) (p : Proposal) → answers_to t marks (ps ++ p ∷ []) ≡ answers_to t marks ps ++ answer t (final_marks t marks ps) p ∷ []
-  unfolding answers_to
-  answers_more marks ps p = answers_append marks ps (p ∷ [])
-
 pub taken_more : (xs : List ℕ) (a : ℕ) → taken (xs ++ a ∷ []) ≡ taken xs + bit (eqb a 0)
 unfolding taken
 taken_more [] a = add_comm (bit (eqb a 0)) 0

@@ -1,28 +1,25 @@
--- The five cases and the answers: each answer is given exactly if it applies and none before it does.
-use Rattle.std.specs.Prelude.{◌≡◌, refl, ◌⊎◌, ◌↔◌, ◌≢◌, true, false, ◌&&◌, ◌||◌, List, [], ◌∷◌, eqb, ltb}
+-- The five cases and the answers: when each applies. That each answer is given exactly if it applies and none before it does is proved in
+-- `proofs.Reading.Answers`.
+use Rattle.std.specs.Prelude.{◌≡◌, refl, ◌⊎◌, ◌↔◌, ◌≢◌, true, false, ◌&&◌, List, [], ◌∷◌}
 use Rattle.std.proofs.Math.Path.{sym, ap}
-use Rattle.std.proofs.Common.{◌∙◌, inr, zero-lt-suc, arith}
+use Rattle.std.proofs.Common.{◌∙◌, inr, arith}
 use Rattle.std.proofs.Math.Logic.Iff
 use Rattle.std.proofs.Math.Logic.{inl, ⊎_elim, Ne-symm}
 use Rattle.std.proofs.Math.Bool.{Bool, not}
-use Rattle.std.proofs.Math.Option.{none}
 use mathlib.Core.List.Memᴰ
-use Prim.Native.Nat.{ℕ, zero, suc, ◌+◌, ◌≤◌, ◌<◌}
-use borrow.Author.Tests.{eq-eqb, eqb-false, ne_eqb, ltb-false, le-ltb, not-true, not-false}
+use Prim.Native.Nat.{ℕ, zero, suc, ◌≤◌, ◌<◌}
+use borrow.Author.Tests.{eq-eqb, ne_eqb, not-true, not-false}
 use Rattle.rules.specs.Below.{any, all, pick}
-use Rattle.rules.specs.Table.{Table, outer, holds_face}
+use Rattle.rules.specs.Table.{Table, holds_face}
 use Rattle.rules.specs.Skin.{on_skin}
-use Rattle.rules.specs.Cases.{other_side, free, triangles_on_skin, passes, refuses_at, case_tests}
-use Rattle.rules.specs.First.{given}
-use Rattle.rules.specs.Proposals.{Proposal, inside_in, adds, answer_tests, answer}
-use Rattle.rules.specs.Laws.Truth.{not_both, is_false, and_first, and_second, and_both, and_reads, or_reads, eqb_reads, or_no_first, or_no_second, lower_or_higher}
+use Rattle.rules.specs.Cases.{other_side, free, triangles_on_skin, passes}
+use Rattle.rules.specs.Proposals.{Proposal, inside_in, adds}
+use Rattle.rules.specs.Laws.Truth.{not_both, is_false, and_first, and_second, and_both, lower_or_higher}
 use Rattle.rules.specs.Laws.Below.{any_here, any_some, all_fails, fails_all}
-use Rattle.rules.specs.Laws.Count.{count_zero, none_count, ExactlyOne, one_map, ExactlyTwo, two_map, count_one, one_count, count_two, two_count}
+use Rattle.rules.specs.Laws.Count.{count_zero, ExactlyOne, one_map, ExactlyTwo, two_map, count_one, count_two}
 use Rattle.rules.specs.Laws.Lists.{in_pick, pick_in, Exactly, exactly_map, count_exactly}
-use Rattle.rules.specs.Laws.First.{Reads, FirstOf, condition_at, code_reads, none_reads, given_reads, given_none}
 use Rattle.rules.specs.Laws.Shape.{InTriangle, in_neither}
-use Rattle.rules.specs.Laws.Cases.{refused_f}
-use Rattle.rules.specs.Reading.Rows.{Holds, holds_reads}
+use Rattle.rules.specs.Reading.Rows.{Holds}
 use Rattle.rules.specs.Reading.Closed.{HoldsFace, holds_face_reads}
 use Rattle.rules.specs.Reading.Skin.{Inside, inside_reads, OnSkin, skin_reads}
 
@@ -100,7 +97,7 @@ module _ (t : Table) (Skin Other : ℕ → Type 0) (r : ℕ) where
           (lower_or_higher x.one x.two x.differ)
 
 -- the same skin triangles and the same other side
-refuses_map : (t : Table) (r : ℕ) {S S' O O' : ℕ → Type 0} → ((c : ℕ) → S c ↔ S' c) → ((s : ℕ) → O s ↔ O' s) → (f : ℕ) → RefusesAt t S O r f → RefusesAt t S' O' r f
+pub refuses_map : (t : Table) (r : ℕ) {S S' O O' : ℕ → Type 0} → ((c : ℕ) → S c ↔ S' c) → ((s : ℕ) → O s ↔ O' s) → (f : ℕ) → RefusesAt t S O r f → RefusesAt t S' O' r f
 unfolding one_map two_map
 refuses_map t r skin other zero (clear, (c, l, (s, ls, o, h))) = (λ c l x. clear c l ((skin c).1 x), (c, l, (s, ls, (other s).0 o, h)))
 refuses_map t r skin other (suc zero) (x, (s, ls, o, h)) = (one_map (λ c. (skin c).0) (λ c. (skin c).1) x, (s, ls, (other s).0 o, h))
@@ -115,7 +112,7 @@ unfolding other_side
 other_side_reads true inside s = (λ e. e, λ e. e)
 other_side_reads false inside s = (λ e. not-true (inside s) e, λ e. ap not e)
 
-not_is : (b : Bool) → (not b ≡ true) ↔ (b ≡ false)
+pub not_is : (b : Bool) → (not b ≡ true) ↔ (b ≡ false)
 not_is b = (not-true b, λ e. ap not e)
 
 module _ (t : Table) (inside : ℕ → Bool) (adding : Bool) (r : ℕ) where
@@ -157,7 +154,7 @@ module _ (t : Table) (inside : ℕ → Bool) (adding : Bool) (r : ℕ) where
     λ h c m. let (l, e) = pick_in t.corners (on_skin t inside r) c m in h c l e,
   )
 
-  case0 : f ≡ 0 → (passes t inside adding r ≡ false) ↔ Refuses0 t Skin Other r
+  pub case0 : f ≡ 0 → (passes t inside adding r ≡ false) ↔ Refuses0 t Skin Other r
   unfolding passes triangles_on_skin
   case0 z = (
     λ e.
@@ -172,7 +169,7 @@ module _ (t : Table) (inside : ℕ → Bool) (adding : Bool) (r : ℕ) where
       value : passes t inside adding r ≡ all t.corners (λ c. free t (other_side adding inside) r (c ∷ []))
       value = rw z
 
-  case1 : f ≡ 1 → (passes t inside adding r ≡ false) ↔ Refuses1 t Skin Other r
+  pub case1 : f ≡ 1 → (passes t inside adding r ≡ false) ↔ Refuses1 t Skin Other r
   unfolding passes triangles_on_skin left_out
   case1 one = (
     λ e.
@@ -185,7 +182,7 @@ module _ (t : Table) (inside : ℕ → Bool) (adding : Bool) (r : ℕ) where
       value : passes t inside adding r ≡ free t (other_side adding inside) r left_out
       value = rw one
 
-  case2 : f ≡ 2 → (passes t inside adding r ≡ false) ↔ Refuses2 t Skin Other r
+  pub case2 : f ≡ 2 → (passes t inside adding r ≡ false) ↔ Refuses2 t Skin Other r
   unfolding passes triangles_on_skin left_out
   case2 two = (
     λ e.
@@ -198,24 +195,6 @@ module _ (t : Table) (inside : ℕ → Bool) (adding : Bool) (r : ℕ) where
     where
       value : passes t inside adding r ≡ free t (other_side adding inside) r left_out
       value = rw two
-
-  -- by f, the cases refuse exactly so
-  refuses_by_f : (g : ℕ) → ((f ≡ g) × (passes t inside adding r ≡ false)) ↔ RefusesAt t Skin Other r g
-  unfolding triangles_on_skin
-  refuses_by_f zero = (
-    λ (z, n). (case0 z).0 n,
-    λ x. let z : f ≡ 0 = none_count t.corners (on_skin t inside r) (λ c l. is_false (on_skin t inside r c) (x.0 c l)) in (z, (case0 z).1 x),
-  )
-  refuses_by_f (suc zero) = (λ (one, n). (case1 one).0 n, λ x. let one : f ≡ 1 = one_count t.corners (on_skin t inside r) x.0 in (one, (case1 one).1 x))
-  refuses_by_f (suc (suc zero)) = (λ (two, n). (case2 two).0 n, λ x. let two : f ≡ 2 = two_count t.corners (on_skin t inside r) x.0 in (two, (case2 two).1 x))
-  refuses_by_f (suc (suc (suc g))) = (λ (e, n). absurd (omega (arith, e, refused_f t inside adding r n)), λ x. absurd x)
-
-  refuses_at_reads : (g : ℕ) → (refuses_at t inside adding r g ≡ true) ↔ RefusesAt t Skin Other r g
-  unfolding refuses_at
-  refuses_at_reads g = Iff.trans (and_reads (eqb_reads f g) (not_is (passes t inside adding r))) (refuses_by_f g)
-
-  pub passes_reads : (passes t inside adding r ≡ false) ↔ Refuses t Skin Other r
-  passes_reads = (λ n. (f, (refuses_by_f f).0 (refl, n)), λ (g, x). ((refuses_by_f g).1 x).1)
 
 -- ---- the answers
 
@@ -262,53 +241,3 @@ module _ (t : Table) (marks : List ℕ) (p : Proposal) where
               λ e. inr (k, λ i. not_both ((inside_reads marks s).1 i) (e ∙ is)),
               ⊎_elim (λ (k', _). absurd (omega arith)) (λ (_, off). is_false (inside_in marks s) (λ i. off ((inside_reads marks s).0 i)) ∙ sym is),
             )
-
-    case_reads : (f : ℕ) → (refuses_at t (inside_in marks) (adds p) p.row f ≡ true) ↔ CaseRefuses f
-    case_reads f =
-        let skin = skin_reads t (inside_in marks) (inside_reads marks) p.row in
-        let (forth, back) = refuses_at_reads t (inside_in marks) (adds p) p.row f in (
-          λ e. refuses_map t p.row skin other_reads f (forth e),
-          λ x. back (refuses_map t p.row (λ c. Iff.symm (skin c)) (λ s. Iff.symm (other_reads s)) f x),
-        )
-
-  answers_read : Reads (answer_tests t marks p) answer_conditions
-  unfolding answer_tests case_tests outer
-  answers_read = (
-    given_reads (not_reads_le p.row t.rows),
-    λ _. (
-      given_reads kinds,
-      λ passed. (
-        given_reads (holds_reads t p.row 0),
-        λ _. (
-          given_reads (Iff.trans (other_side_reads (adds p) (inside_in marks) p.row) (other_reads (known passed) p.row)),
-          λ _. (given_reads (case_reads (known passed) 0), λ _. (given_reads (case_reads (known passed) 1), λ _. (given_reads (case_reads (known passed) 2), λ _. tt))),
-        ),
-      ),
-    ),
-  )
-    where
-      not_reads_le : (a b : ℕ) → (not (ltb a b) ≡ true) ↔ (b ≤ a)
-      not_reads_le a b = (λ e. ltb-false a b (not-true (ltb a b) e), λ l. ap not (le-ltb a b l))
-
-      kinds : (not (eqb p.kind 1 || eqb p.kind 2) ≡ true) ↔ ((p.kind ≢ 1) × (p.kind ≢ 2))
-      kinds = (
-        λ e.
-            let neither = not-true (eqb p.kind 1 || eqb p.kind 2) e in
-            (eqb-false p.kind 1 (or_no_first (eqb p.kind 1) (eqb p.kind 2) neither), eqb-false p.kind 2 (or_no_second (eqb p.kind 1) (eqb p.kind 2) neither)),
-        λ (a, b). rw (ne_eqb p.kind 1 a, ne_eqb p.kind 2 b),
-      )
-
-      known : given (not (eqb p.kind 1 || eqb p.kind 2)) ≡ none → (p.kind ≡ 1) ⊎ (p.kind ≡ 2)
-      known off =
-          (or_reads (eqb_reads p.kind 1) (eqb_reads p.kind 2)).0
-          (not-false (eqb p.kind 1 || eqb p.kind 2) (given_none (not (eqb p.kind 1 || eqb p.kind 2)) off))
-
-  -- answer 1 + i is given exactly if it applies and none before it does
-  pub answer_exactly : (i : ℕ) → i < 7 → (answer t marks p ≡ 1 + i) ↔ ((place : ℕ) × FirstOf answer_conditions i place)
-  unfolding answer answer_tests case_tests
-  answer_exactly i l = code_reads 1 (zero-lt-suc 0) (answer_tests t marks p) answer_conditions answers_read i l
-
-  -- answer 0 exactly if none applies
-  pub taken_exactly : (answer t marks p ≡ 0) ↔ ((i place : ℕ) → condition_at answer_conditions i place → ⊥)
-  unfolding answer
-  taken_exactly = none_reads 1 (zero-lt-suc 0) (answer_tests t marks p) answer_conditions answers_read

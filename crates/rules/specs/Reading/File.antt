@@ -2,7 +2,7 @@
 use Rattle.std.proofs.Math.Path.{◌≡◌}
 use Rattle.std.proofs.Common.{◌∙◌, add_assoc, mul_comm, mul-suc, mul-le-mul_left, get_or-take, get_or-drop}
 use Rattle.std.specs.Prelude.{◌↔◌, Bool, true, false, cond, List, get_or}
-use Rattle.std.proofs.Math.Option.{Option, some, none}
+use Rattle.std.proofs.Math.Option.{some, none}
 use Prim.Native.Nat.{ℕ, ◌+◌, ◌*◌, ◌≤◌, ◌<◌}
 use Rattle.std.proofs.Math.Nat.{mul_assoc}
 use native.Mathlib.Omega.{arith}
@@ -11,12 +11,10 @@ use Rattle.rules.specs.Table.{table_of}
 use Rattle.rules.specs.Points.{Point, signed, coordinate, point_in}
 use Rattle.rules.specs.Proposals.{Proposal}
 use Rattle.rules.specs.Job.{Form, header_of, row_bytes, rows_at, marks_at, proposals_at, points_at, has_points, asks_outward, point_bytes, section, rows_table, proposal_in, points_of, job_of}
-use Rattle.rules.specs.Laws.Truth.{is_false, eqb_reads}
-use Rattle.rules.specs.Laws.Job.{outward_pointed}
+use Rattle.rules.specs.Laws.Truth.{eqb_reads}
 use Rattle.rules.specs.Laws.Lists.{tabulate_at}
 use Rattle.rules.specs.Laws.Places.{place_below}
 use Rattle.rules.specs.Laws.Words.{word_part}
-use Rattle.rules.specs.Reading.Codes.{WithPoints, with_points_reads}
 
 -- a proposal of a part is one of the whole
 pub proposal_part : (bytes : List ℕ) (start size k : ℕ) → 8 * k + 8 ≤ size
@@ -50,28 +48,10 @@ module _ (f : Form) (bytes : List ℕ) where
       let h = header_of bytes in
       tabulate_at h.proposals _ d k l ∙ proposal_part bytes (proposals_at f h) (8 * h.proposals) k (omega arith)
 
-  -- there are points exactly if word 7 says so: for a track, if it is 1 or 3
-  pub points_exactly : ((job_of f bytes).points ≡ none) ↔ (WithPoints f (header_of bytes) → ⊥)
-  unfolding job_of points_of
-  points_exactly =
-      let h = header_of bytes in
-      let held = point_in (section bytes (points_at f h) (point_bytes f h)) in
-      (λ e is. some_none held (rw ((with_points_reads f h).1 is) at e), λ no. rw (is_false (has_points f h) (λ e. no ((with_points_reads f h).0 e))))
-    where
-      some_none : (at : ℕ → Point) → ◌≡◌ {A = Option (ℕ → Point)} (some at) none → ⊥
-      some_none at e = let z : ◌≡◌ {A = ℕ} 0 1 = cc in omega arith
-
   -- the skin is to be listed outward exactly if word 7 says so: for a track, if it is 1
   pub outward_exactly : ((job_of f bytes).outward ≡ true) ↔ ((header_of bytes).mode ≡ f.mode + 1)
   unfolding job_of asks_outward
   outward_exactly = eqb_reads (header_of bytes).mode (f.mode + 1)
-
-  -- there are points then
-  pub outward_points : (job_of f bytes).outward ≡ true → (at : ℕ → Point) × ((job_of f bytes).points ≡ some at)
-  unfolding job_of points_of
-  outward_points e =
-      let h = header_of bytes in
-      (point_in (section bytes (points_at f h) (point_bytes f h)), rw (outward_pointed f h e))
 
   -- for a track the point of id v is the three i16 from byte 32 + 17N + 8P + 6v on
   pub point_stands : (at : ℕ → Point) → (job_of f bytes).points ≡ some at → (v : ℕ) → v < (header_of bytes).ids

@@ -1,7 +1,7 @@
 -- Triangles listed outward, in plain words. A list of triangles is given by its words, three ids each, as they are left in a buffer.
 use Rattle.std.specs.Prelude.{◌≡◌, ◌⊎◌, ◌≢◌, Bool, not, ◌&&◌, cond, ℕ, ◌+◌, ◌*◌, ◌<◌, get_or, pos, ◌<ℤ◌}
 use Rattle.std.proofs.Math.Path.{refl, ap, fun_ext}
-use Rattle.std.proofs.Common.{◌∙◌, subst, arith}
+use Rattle.std.proofs.Common.{◌∙◌, arith}
 use Rattle.std.proofs.Math.Logic.{inl, inr, ⊎_elim}
 use Rattle.std.proofs.Math.Bool.{true, false}
 use Rattle.std.proofs.Math.Option.{Option, some, none}
@@ -58,7 +58,7 @@ pub record AsRising (listed rising : List (List ℕ)) : Type 0 where
 
 -- ---- a triangle as it is listed
 
-exchanged_ids : (ids : List ℕ) → length ids ≡ 3 → (u : ℕ) → Among u (exchanged ids) → Among u ids
+pub exchanged_ids : (ids : List ℕ) → length ids ≡ 3 → (u : ℕ) → Among u (exchanged ids) → Among u ids
 unfolding exchanged
 exchanged_ids [] e u m = absurd (omega arith)
 exchanged_ids (a ∷ []) e u m = absurd (omega arith)
@@ -93,14 +93,10 @@ module _ (t : Table) (outward : Bool) (points : Option (ℕ → Point)) where
       by_points r c (some at) = refl
 
   module _ (four : t.corners ≡ 4) where
-    three : (r c : ℕ) → c < t.corners → length (triangle t r c) ≡ 3
+    pub three : (r c : ℕ) → c < t.corners → length (triangle t r c) ≡ 3
     three r c l = triangle_length t four r c (rw four at l)
 
     -- each has three ids, those of its triangle
     pub three_each : (r c : ℕ) → c < t.corners → length (triangle_as t outward points r c) ≡ 3
     unfolding exchanged
     three_each r c l = ⊎_elim (λ e. ap length e ∙ three r c l) (λ e. ap length e) (either_way r c)
-
-    pub listed_ids : (r c : ℕ) → c < t.corners → (u : ℕ) → Among u (triangle_as t outward points r c) → Among u (triangle t r c)
-    listed_ids r c l u m =
-        ⊎_elim (λ e. subst (Among u) e m) (λ e. exchanged_ids (triangle t r c) (three r c l) u (subst (Among u) e m)) (either_way r c)

@@ -5,17 +5,16 @@ use Rattle.std.proofs.Math.Path.{ap}
 use Rattle.std.proofs.Math.Bool.{Bool, not}
 use Prim.Native.Nat.{ℕ, ◌<◌}
 use Rattle.std.proofs.Math.Dec.{eqb}
-use Rattle.std.proofs.lemmas.Bool.{not-true, not-false}
+use Rattle.std.proofs.lemmas.Bool.{not-true}
 use Rattle.rules.specs.Below.{any, all, count, pick}
 use Rattle.rules.specs.Joined.{connected}
 use Rattle.rules.specs.Table.{Table}
-use Rattle.rules.specs.Skin.{far_edge, far_end, one_ring, skin_vertex, ringless, clean}
-use Rattle.rules.specs.Laws.Truth.{true_or_false, not_both, is_false, and_first, and_second, and_both, or_either, or_first, or_second}
-use Rattle.rules.specs.Laws.Below.{any_here, any_some, any_none, none_any, all_each, each_all}
+use Rattle.rules.specs.Skin.{far_edge, far_end, one_ring, skin_vertex}
+use Rattle.rules.specs.Laws.Truth.{true_or_false, not_both, and_first, and_second, and_both, or_either, or_first, or_second}
+use Rattle.rules.specs.Laws.Below.{any_here, any_some, any_none, all_each, each_all}
 use Rattle.rules.specs.Laws.Count.{ExactlyTwo, two_map, count_two, two_count}
 use Rattle.rules.specs.Laws.Joined.{Chain, stay, step, chain_starts, chain_map, Picked, picked_chain, chain_picked}
-use Rattle.rules.specs.Reading.Closed.{Paired}
-use Rattle.rules.specs.Reading.Skin.{SkinVertex, SkinTriangle, far_reads, skin_vertex_reads, far_back}
+use Rattle.rules.specs.Reading.Skin.{SkinVertex, SkinTriangle, far_reads, far_back}
 
 -- ---- edges between numbers below n
 
@@ -144,19 +143,6 @@ module _ (t : Table) (inside : ℕ → Bool) (id_count : ℕ) where
   unfolding one_ring far_end ring_test
   one_ring_reads v = ring_reads id_count (far_edge t inside v) (λ a b. far_back t inside v a b)
 
-  -- each skin vertex has one ring
-  pub clean_reads : (clean t inside id_count ≡ true) ↔ ((v : ℕ) → v < id_count → skin_vertex t inside id_count v ≡ true → OneRing id_count (FarEdge v))
-  unfolding clean ringless
-  clean_reads = (
-    λ e v l on.
-        (one_ring_reads v).0 (not-false (one_ring t inside id_count v) (is_false (not (one_ring t inside id_count v)) (λ q.
-        not_both (any_here id_count (ringless t inside id_count) v l (and_both on q)) (not-true (any id_count (ringless t inside id_count)) e)))),
-    λ rings.
-        ap not (none_any id_count (ringless t inside id_count) (λ v l. is_false (ringless t inside id_count v) (λ q.
-        not_both ((one_ring_reads v).1 (rings v l (and_first (skin_vertex t inside id_count v) (not (one_ring t inside id_count v)) q)))
-        (not-true (one_ring t inside id_count v) (and_second (skin_vertex t inside id_count v) (not (one_ring t inside id_count v)) q))))),
-  )
-
   -- a vertex that is not on the skin has no far edge, so nothing that could fail
   pub off_skin_ring : (v : ℕ) → v < id_count → skin_vertex t inside id_count v ≡ false → OneRing id_count (FarEdge v)
   unfolding skin_vertex far_end
@@ -178,10 +164,3 @@ module _ (t : Table) (four : t.corners ≡ 4) (inside : ℕ → Bool) {In : ℕ 
     ring_map (λ a b. (far_reads t four inside told v a b).0) (λ a b. (far_reads t four inside told v a b).1),
     ring_map (λ a b. (far_reads t four inside told v a b).1) (λ a b. (far_reads t four inside told v a b).0),
   )
-
-  pub clean_plain : Paired t id_count → (clean t inside id_count ≡ true) ↔ Clean t In id_count
-  clean_plain paired =
-      let (forth, back) = clean_reads t inside id_count in (
-        λ e v l on. (ring_plain v).0 (forth e v l ((skin_vertex_reads t four inside told paired v).1 on)),
-        λ rings. back (λ v l on. (ring_plain v).1 (rings v l ((skin_vertex_reads t four inside told paired v).0 on))),
-      )

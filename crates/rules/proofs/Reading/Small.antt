@@ -1,5 +1,5 @@
 -- How large what a run gives can be: a place is a row or a vertex, and there are at most P taken and 2N triangles.
-use Rattle.std.specs.Prelude.{◌≡◌, refl, ◌≢◌, Bool, List, ℕ, ◌+◌, ◌-◌, ◌*◌, ◌≤◌}
+use Rattle.std.specs.Prelude.{◌≡◌, refl, ◌≢◌, List, ℕ, ◌+◌, ◌-◌, ◌*◌, ◌≤◌}
 use Rattle.std.proofs.Common.{sym, ◌∙◌, subst, ⊎_elim, arith}
 use Rattle.std.proofs.Math.Path.{ap}
 use Rattle.std.proofs.Math.Option.{Option, some, none}
@@ -10,10 +10,12 @@ use Rattle.rules.specs.Job.{Form, header_of, most_rows, most_proposals, within_l
 use Rattle.rules.specs.Laws.Truth.{same_or_not, not_both, is_true}
 use Rattle.rules.specs.Laws.Proposals.{taken_few}
 use Rattle.rules.specs.Laws.First.{Places, first_place}
-use Rattle.rules.specs.Laws.Job.{job_ids, job_corners, job_rows, job_answers}
+use Rattle.rules.specs.Laws.Job.{job_ids, job_corners, job_rows}
+use Rattle.rules.proofs.Laws.Job.{job_answers}
 use Rattle.rules.specs.Reading.Rows.{First}
 use Rattle.rules.specs.Reading.Room.{skin_same_length, at_most_2_n}
-use Rattle.rules.specs.Reading.Codes.{WithinLimits, limits_read, Shown, section_conditions, job_conditions, run_accepted, run_code, run_code_below, code_exactly, accepted_closed, accepted_header, refusal_keeps}
+use Rattle.rules.specs.Reading.Codes.{WithinLimits, limits_read, Shown, section_conditions, job_conditions, run_accepted, run_code, run_code_below, refusal_keeps}
+use Rattle.rules.proofs.Reading.Codes.{code_exactly, accepted_closed, accepted_header}
 
 module _ (f : Form) (bytes : List ℕ) (lent : Lent) (four : f.corners ≡ 4) where
   module _ (z : (run f bytes lent).code ≡ 0) where
