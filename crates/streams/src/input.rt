@@ -1,44 +1,54 @@
 // Standard input, read to its end or until the room is full.
-ghost use Rattle.std.specs.Prelude.{◌≡◌, ◌+◌, ◌≤◌, length, pos};
-ghost use Rattle.std.specs.Int.Signed.{lt_z};
-ghost use Rattle.io.specs.Counts.{IsPrefixLen, clamp_len};
+ghost use Rattle.std.specs.Prelude.{◌≡◌, ◌+◌, ◌≤◌, min, length, take, None, Some, IfOk, IfErr};
 
-use libc::STDIN_FILENO;
+use std::io;
+use std::io::Read;
 
-// How many bytes came, and whether a read failed: an error of the disk is not the end of the input.
+// How many bytes came, and why a read failed, if one did: an error of the disk is not the end of the input.
 #[derive(Clone, Copy)]
 pub struct Input {
     pub count: usize,
-    pub failed: bool,
+    pub failed: Option<io::Error>,
 }
 
-// What C's answer to one read into a part of the room says: below zero it failed, zero is the end.
-fn answered(got: isize, part: &[u8]) -> Input
-    ensures prefix_len { IsPrefixLen result.count part.now }
-    ensures count_value { (result.count ≡ clamp_len got (length part.now)) × (result.failed ≡ lt_z got (pos 0)) }
+// What the answer to one read into a part of the room says: an error that it failed, zero is the end.
+fn answered(got: io::Result<usize>, part: &[u8]) -> Input
+    ensures in_part { result.count ≤ length part.now }
+    ensures prefix { result.count ≡ length (take result.count part.now) }
+    ensures count { IfOk got (λ n. result.count ≡ min n (length part.now)) }
+    ensures no_count { IfErr got (λ _. result.count ≡ 0) }
+    ensures failed { IfErr got (λ e. result.failed ≡ Some e) }
+    ensures not_failed { IfOk got (λ _. result.failed ≡ None) }
 {
-    Input {
-        count: io::count(got, part),
-        failed: got < 0,
+    match got {
+        Ok(count) => Input {
+            count: count.min(part.len()),
+            failed: None,
+        },
+        Err(error) => Input {
+            count: 0,
+            failed: Some(error),
+        },
     }
 }
 
 // One read into the room, from byte `at` on.
-fn read_from(room: &mut [u8], at: usize) -> Input
+fn read_from<R: Read>(source: &mut R, room: &mut [u8], at: usize) -> Input
     requires { at ≤ length room.old }
     ensures { (length room.new ≡ length room.old) × (at + result.count ≤ length room.new) }
 {
     let part = &mut room[at..];
-    let got = libc::read(STDIN_FILENO, part);
+    let got = source.read(part);
     answered(got, part)
 }
 
-pub fn read_input(room: &mut [u8]) -> Input
-    ensures { IsPrefixLen result.count room.new }
+pub fn read_input<R: Read>(source: &mut R, room: &mut [u8]) -> Input
+    ensures in_room { result.count ≤ length room.new }
+    ensures prefix { result.count ≡ length (take result.count room.new) }
 {
     let mut at = 0;
     while at < room.len() {
-        let more = read_from(room, at);
+        let more = read_from(source, room, at);
         if more.count == 0 {
             return Input {
                 count: at,
@@ -49,6 +59,6 @@ pub fn read_input(room: &mut [u8]) -> Input
     }
     Input {
         count: at,
-        failed: false,
+        failed: None,
     }
 }

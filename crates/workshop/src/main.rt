@@ -8,19 +8,20 @@ mod said;
 mod write;
 
 use read::print_facets;
+use std::rt::Env;
 use write::print_skin;
 
 // The first argument says what is asked for: `read` or `write`.
-fn is_read() -> bool {
+fn is_read<R: Env>(rt: &R) -> bool {
     let mut word = [0u8; 8];
-    os::arg(1, &mut word);
+    let _ = rt.arg(1, &mut word);
     word[0] == b'r'
 }
 
-fn main() {
-    if is_read() {
-        print_facets();
+fn main(rt: HostRuntime) {
+    if is_read(&rt) {
+        print_facets(&rt);
     } else {
-        print_skin();
+        print_skin(&rt);
     }
 }

@@ -4,7 +4,9 @@ ghost use Rattle.workshop.specs.Said.{file_said, file_refused, Says};
 
 use crate::said::{Said, refused, refused_off, say};
 use lines::facets::{FACETS_ROOM, list_facets};
+use std::rt::HostRuntime;
 use stl::reader::{Reading, read_file};
+use streams::failure::fail;
 use streams::input::read_input;
 
 // Writes what is to be said of a file to the front of a buffer.
@@ -28,16 +30,17 @@ fn list_file(file: &[u8], out: &mut [u8]) -> Said
 
 // Of a longer file one byte more is read than the longest has. It is refused for its length, and `front_enough` says that its front gets
 // the same answer.
-pub(crate) fn print_facets() {
+pub(crate) fn print_facets(rt: &HostRuntime) {
     let mut file = [0u8; 204885];
-    let input = read_input(&mut file);
-    if input.failed {
-        os::fail(b"stl: the file could not be read");
+    let input = read_input(&mut rt.stdin(), &mut file);
+    if let Some(error) = input.failed {
+        fail(rt, b"stl: the file could not be read", error);
         return;
     }
     let mut out = [0u8; FACETS_ROOM];
     let said = list_file(&file[..input.count], &mut out);
     say(
+        rt,
         &out[..said.size],
         said.refused,
         b"stl: the facets could not be printed",

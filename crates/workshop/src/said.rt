@@ -4,6 +4,8 @@ ghost use Rattle.lines.specs.Listing.{line, word_refused};
 ghost use Rattle.workshop.specs.Said.{Says};
 
 use lines::refused_line;
+use std::rt::{Env, Files, HostRuntime};
+use streams::arguments::has_argument;
 use streams::output::{print_whole, tell};
 
 // So many bytes at the front of a buffer: a text to print, or the line of a refusal.
@@ -37,17 +39,17 @@ pub(crate) fn refused_off(facet: usize, bits: usize, out: &mut [u8]) -> Said
 }
 
 // Started with a second argument, the program tells a line on descriptor 3.
-fn tell_script(line: &[u8]) {
-    if os::arg_count() > 2 {
-        tell(line);
+fn tell_script<R: Env + Files>(rt: &R, line: &[u8]) {
+    if has_argument(rt, 2) {
+        tell(rt, line);
     }
 }
 
 // Prints the text, and tells `whole` when all of it is printed; or tells the line of a refusal, and prints nothing.
-pub(crate) fn say(text: &[u8], refused: bool, failure: &[u8]) {
+pub(crate) fn say(rt: &HostRuntime, text: &[u8], refused: bool, failure: &[u8]) {
     if refused {
-        tell_script(text);
-    } else if print_whole(text, failure) {
-        tell_script(b"whole\n");
+        tell_script(rt, text);
+    } else if print_whole(rt, text, failure) {
+        tell_script(rt, b"whole\n");
     }
 }

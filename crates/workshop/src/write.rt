@@ -4,6 +4,8 @@ ghost use Rattle.workshop.specs.Said.{Says};
 ghost use Rattle.workshop.specs.Skin.{skin_said, skin_refused};
 
 use crate::said::{Said, refused, say};
+use std::rt::HostRuntime;
+use streams::failure::fail;
 use streams::input::read_input;
 use track_stl::write_skin;
 
@@ -35,16 +37,17 @@ fn put_skin(job: &[u8], file: &mut [u8]) -> Said
 
 // Of a longer input the first 65,536 bytes are read. No job is as long, so it is refused, and `skin_enough` says that its front gets the
 // same refusal.
-pub(crate) fn print_skin() {
-    let mut job = io::large_buffer();
-    let input = read_input(&mut job);
-    if input.failed {
-        os::fail(b"stl: the job could not be read");
+pub(crate) fn print_skin(rt: &HostRuntime) {
+    let mut job = [0u8; 65536];
+    let input = read_input(&mut rt.stdin(), &mut job);
+    if let Some(error) = input.failed {
+        fail(rt, b"stl: the job could not be read", error);
         return;
     }
     let mut file = [0u8; 204884];
     let said = put_skin(&job[..input.count], &mut file);
     say(
+        rt,
         &file[..said.size],
         said.refused,
         b"stl: the file could not be written",
