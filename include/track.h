@@ -1,8 +1,8 @@
 /* Runs track jobs, and writes and reads their skins as binary STL, from C (C99
  * and later) and C++. docs/JOBS.md explains every word used here.
  *
- * `rt staticlib track_c` makes the archive with the four functions below,
- * target/staticlib/libtrack_c.a: track_run, track_stl_run, track_stl_write and
+ * `rt lib` in crates/track_c makes the archive with the four functions below,
+ * crates/track_c/out/libtrack_c.a: track_run, track_stl_run, track_stl_write and
  * track_stl_read. It is x86-64 code for Linux, and of the C library it needs
  * memset alone. examples/outcome.c and examples/stl.c are programs that use
  * it. */
