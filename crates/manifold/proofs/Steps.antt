@@ -1,17 +1,16 @@
 -- Proposals: each answer, every step, and backwards.
-use Rattle.std.specs.Prelude.{◌≡◌, refl, ◌⊎◌, ◌↔◌, ◌≢◌, true, false, not, length, set, take}
+use Rattle.std.specs.Prelude.{◌≡◌, refl, ◌↔◌, ◌≢◌, true, false, not, length, set, take}
 use Rattle.std.proofs.Common.{sym, ◌∙◌, set-set}
 use Rattle.std.proofs.Math.Path.{ap, subst}
 use Rattle.std.proofs.Math.Logic.{⊎_elim}
-use mathlib.Core.List.Memᴰ
 use mathlib.Core.List.{List, [], ◌∷◌}
-use Prim.Native.Nat.{ℕ, ◌+◌, ◌-◌, ◌<◌}
+use Prim.Native.Nat.{ℕ, ◌+◌, ◌<◌}
 use Rattle.std.proofs.lemmas.List.{set-get_or}
 use Rattle.rules.specs.Below.{bit}
 use Rattle.rules.specs.Table.{Table}
 use Rattle.rules.specs.Skin.{clean}
 use Rattle.rules.specs.Cases.{triangles_on_skin, passes}
-use Rattle.rules.specs.Proposals.{Proposal, inside_in, adds, answer, RefusedByCases, marks_after, answers_to, final_marks, taken}
+use Rattle.rules.specs.Proposals.{Proposal, inside_in, adds, answer, RefusedByCases, marks_after, answers_to, final_marks}
 use Rattle.rules.specs.Laws.Truth.{same_or_not}
 use Rattle.rules.specs.Reading.Closed.{Closed}
 use Rattle.manifold.specs.Steps.{flipped, flip_at, PassesEarlier, Eligible, passes_earlier, taken_earlier, taken_passes, refused_passes, refused_at_passes, after_taken, after_refused, taken_of, exchanged, undoing, AllTaken, all_taken_append, undoing_taken, undoing_refused, exchanged_adds, exchanged_kind, mark_back, Marks, flipped_marks}

@@ -3,11 +3,11 @@
 use Rattle.std.specs.Prelude.{◌≡◌, refl, ◌⊎◌, ◌↔◌, ◌≢◌, Bool, true, ℕ, ◌<◌}
 use Rattle.std.proofs.Common.{sym, ap, ◌∙◌, subst, inl, inr, ⊎_elim, arith, lit<}
 use Rattle.std.proofs.Math.Logic.{Ne-symm}
-use Rattle.rules.specs.Table.{Table, holds}
+use Rattle.rules.specs.Table.{Table}
 use Rattle.rules.specs.Skin.{on_skin, far_edge}
-use Rattle.rules.specs.Laws.Truth.{true_or_false, not_both, same_or_not}
+use Rattle.rules.specs.Laws.Truth.{same_or_not}
 use Rattle.rules.specs.Laws.Shape.{two_others}
-use Rattle.rules.specs.Reading.Rows.{ids_differ, Holds, holds_reads}
+use Rattle.rules.specs.Reading.Rows.{ids_differ, Holds}
 use Rattle.rules.specs.Reading.Closed.{Closed}
 use Rattle.rules.specs.Reading.Skin.{Different, skin_far}
 use Rattle.manifold.specs.Facet.{FlipAt}

@@ -1,17 +1,12 @@
 -- What the five cases ask: that no row of the other side has a property. None that has it is then on the skin.
-use Rattle.std.specs.Prelude.{◌≡◌, refl, ◌⊎◌, ◌≢◌, Bool, true, false, ℕ, ◌≤◌, ◌<◌}
+use Rattle.std.specs.Prelude.{◌≡◌, refl, ◌≢◌, Bool, true, false, ℕ, ◌≤◌, ◌<◌}
 use Rattle.std.proofs.Common.{sym, ◌∙◌, subst, ⊎_elim, arith}
 use Rattle.std.proofs.Math.Bool.{not}
 use Rattle.rules.specs.Below.{count}
 use Rattle.rules.specs.Table.{Table}
-use Rattle.rules.specs.Skin.{on_skin, clean}
-use Rattle.rules.specs.Cases.{passes}
-use Rattle.rules.specs.Laws.Truth.{not_both, is_false, is_true, same_test, same_or_not}
-use Rattle.rules.specs.Laws.Count.{count_zero, count_one, count_two, count_not, count_without, without, is_without}
-use Rattle.rules.specs.Reading.Rows.{one_corner, Holds}
+use Rattle.rules.specs.Skin.{on_skin}
+use Rattle.rules.specs.Laws.Count.{count_without, without, is_without}
 use Rattle.rules.specs.Reading.Closed.{Closed}
-use Rattle.rules.specs.Reading.Answers.{Refuses, neither_holds}
-use Rattle.rules.proofs.Reading.Answers.{passes_reads}
 use Rattle.manifold.specs.Facet.{FlipAt, same_mark, not_differs}
 use Rattle.manifold.specs.Triangle.{On, Skin}
 

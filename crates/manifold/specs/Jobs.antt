@@ -1,23 +1,14 @@
 -- Demand 3 for accepted jobs: those that `rules`' run gives code 0, whatever is lent.
 use Rattle.std.specs.Prelude.{◌≡◌, ◌↔◌, true, false, List, ℕ, ◌+◌, ◌^◌, ◌≤◌, ◌<◌, take}
-use Rattle.rules.specs.First.{first_match}
 use Rattle.rules.specs.Cases.{triangles_on_skin}
 use Rattle.rules.specs.Proposals.{Proposal, inside_in, answer, RefusedByCases}
-use Rattle.rules.specs.Job.{Form, header_of, whole_length, Job, job_of, answers_of, standing, final_of, clean_with, Lent, table_tests, mark_tests, section_tests, accepted, run}
-use Rattle.rules.specs.Made.{with_proposals, remade_job, cut_job, cut_to, remade}
-use Rattle.rules.specs.Laws.Lists.{Among}
-use Rattle.rules.specs.Laws.First.{match_parts, match_both}
-use Rattle.rules.specs.Laws.Proposals.{answers_length, taken_few}
-use Rattle.rules.specs.Laws.Job.{job_corners, job_rows}
-use Rattle.rules.proofs.Laws.Job.{job_answers}
-use Rattle.rules.specs.Laws.Made.{cut_header, remade_header}
-use Rattle.rules.proofs.Laws.Made.{cut_laid, cut_job_lem, remade_laid, remade_job_lem}
-use Rattle.rules.specs.Reading.Closed.{Closed}
-use Rattle.rules.specs.Reading.Skin.{inside_reads}
+use Rattle.rules.specs.Job.{Form, header_of, whole_length, Job, job_of, answers_of, standing, final_of, clean_with, Lent, accepted, run}
+use Rattle.rules.specs.Made.{with_proposals, cut_job, cut_to}
+use Rattle.rules.specs.Laws.Made.{cut_header}
+use Rattle.rules.proofs.Laws.Made.{cut_laid, cut_job_lem}
 use Rattle.rules.specs.Reading.Outer.{OuterAlike}
-use Rattle.rules.proofs.Reading.Ring.{clean_plain}
-use Rattle.rules.specs.Reading.Codes.{WithinLimits, LaidOut, RoomShort, sections_passed, points_passed, accepted_marks, accepted_clean}
-use Rattle.rules.proofs.Reading.Codes.{marks_fit, run_as, accepted_closed, accepted_outer, accepted_header, accepted_length}
+use Rattle.rules.specs.Reading.Codes.{WithinLimits, LaidOut, RoomShort, sections_passed}
+use Rattle.rules.proofs.Reading.Codes.{run_as, accepted_outer, accepted_header}
 use Rattle.manifold.specs.Steps.{PassesEarlier, flipped, AllTaken, undoing, alike_kept}
 
 -- After each proposal, and before the first, the far edges at each skin corner form one single ring.

@@ -11,7 +11,6 @@ use Rattle.std.proofs.Math.ListN.{get_or}
 use Rattle.std.proofs.lemmas.List.{length-map, length-reverse, replicate-append-replicate}
 use Rattle.rules.specs.Below.{bit, only}
 use Rattle.rules.specs.Table.{Table, holds}
-use Rattle.rules.specs.Skin.{clean}
 use Rattle.rules.specs.Cases.{other_side, triangles_on_skin, passes, case_answer}
 use Rattle.rules.specs.Proposals.{Proposal, inside_in, adds, answer, RefusedByCases, marks_after, answers_to, final_marks, taken}
 use Rattle.rules.specs.Laws.Truth.{is_false, same_or_not, or_reads, eqb_reads}
@@ -20,7 +19,6 @@ use Rattle.rules.proofs.Laws.Cases.{passed_exactly, refused_exactly, refused_at_
 use Rattle.rules.specs.Laws.Proposals.{answer_is, answers_append, final_append, set_inside, set_elsewhere}
 use Rattle.rules.specs.Laws.First.{condition_at}
 use Rattle.rules.specs.Reading.Rows.{Holds, holds_reads}
-use Rattle.rules.specs.Reading.Closed.{Closed}
 use Rattle.rules.specs.Reading.Outer.{OuterAlike}
 use Rattle.rules.specs.Reading.Answers.{answer_conditions, other_side_reads, other_reads}
 use Rattle.rules.proofs.Reading.Answers.{answer_exactly, taken_exactly}

@@ -3,15 +3,13 @@ use Rattle.std.specs.Prelude.{◌≡◌, refl, ◌↔◌, ◌≢◌, Bool, true,
 use Rattle.std.proofs.Common.{sym, ◌∙◌, subst, inl, inr, ⊎_elim}
 use Rattle.std.proofs.Math.Logic.{Ne-symm}
 use Rattle.rules.specs.Table.{Table}
-use Rattle.rules.specs.Skin.{far_edge, clean, skin_vertex}
-use Rattle.rules.specs.Laws.Truth.{true_or_false, not_both}
+use Rattle.rules.specs.Skin.{far_edge}
+use Rattle.rules.specs.Laws.Truth.{not_both}
 use Rattle.rules.specs.Laws.Count.{TheOther}
 use Rattle.rules.specs.Reading.Rows.{Holds}
 use Rattle.rules.specs.Reading.Neighbours.{Side, side_reads}
 use Rattle.rules.specs.Reading.Closed.{Closed, across_is}
 use Rattle.rules.specs.Reading.Skin.{as_tested, skin_reads, skin_between_sides, Different, TriangleIds, SkinTriangle, three_reads, triangle_rows, triangle_of, skin_far, far_reads}
-use Rattle.rules.specs.Reading.Ring.{OneRing, ring_map, FarEdge, off_skin_ring}
-use Rattle.rules.proofs.Reading.Ring.{clean_reads}
 use Rattle.manifold.specs.Facet.{FlipAt, flip_back, Split, split_flips, split_kept, split_map}
 use Rattle.manifold.specs.Ring.{Edges, Ring, Flipped}
 

@@ -7,19 +7,17 @@ use Rattle.std.proofs.Math.Bool.{xor}
 use mathlib.Core.List.{List, [], ◌∷◌}
 use Rattle.std.proofs.Math.Nat.{lt_trans}
 use Rattle.std.proofs.lemmas.Bool.{not-false}
-use Rattle.rules.specs.Shape.{facet}
 use Rattle.rules.specs.Table.{Table, outer, across}
 use Rattle.rules.specs.Skin.{on_skin, triangle}
 use Rattle.rules.specs.Proposals.{inside_in}
 use Rattle.rules.specs.Points.{Point, below_zero, above_zero, is_zero}
-use Rattle.rules.specs.Outward.{product, side_of, far_id, flat, right_way, exchanged, triangle_as}
+use Rattle.rules.specs.Outward.{product, side_of, far_id, flat, right_way}
 use Rattle.rules.specs.Laws.Truth.{not_both, is_false}
-use Rattle.rules.specs.Laws.Shape.{facet_three}
 use Rattle.rules.specs.Reading.Closed.{Paired, across_below}
 use Rattle.rules.specs.Reading.Skin.{Inside, inside_reads, Different, TriangleIds, skin_between}
 use Rattle.rules.specs.Reading.Outer.{outer_reads, OuterAlike}
 use Rattle.rules.specs.Reading.Points.{below_reads, above_reads}
-use Rattle.rules.specs.Reading.Outward.{listed_id, HoldsAll, FourthCorner, FacesOutward, three_each}
+use Rattle.rules.specs.Reading.Outward.{HoldsAll, FourthCorner, FacesOutward}
 use Rattle.outward.specs.Row.{ids_last_exchanged, FourIds, below_corners, own_ids, own_is, far_ids, far_is}
 use Rattle.outward.specs.Signs.{solid_above, exchanged_below, exchanged_above, solid_row}
 

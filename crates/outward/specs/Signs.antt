@@ -6,14 +6,13 @@ use Rattle.std.proofs.Math.Bool.{false, not, and_comm}
 use Prim.Native.Nat.{ℕ, zero, suc, ◌<◌}
 use Rattle.rules.specs.Below.{pick, gather, only}
 use Rattle.rules.specs.Shape.{facet}
-use Rattle.rules.specs.Table.{Table, outer, across}
+use Rattle.rules.specs.Table.{Table, outer}
 use Rattle.rules.specs.Skin.{triangle}
 use Rattle.rules.specs.Points.{Point, below_zero, above_zero, is_zero, same_sign}
-use Rattle.rules.specs.Outward.{product, side_of, far_id, flat, same_side, folded}
+use Rattle.rules.specs.Outward.{product, side_of, flat}
 use Rattle.rules.specs.Laws.Truth.{not_both, is_false, and_both}
-use Rattle.rules.specs.Laws.Below.{any_none}
-use Rattle.rules.specs.Reading.Closed.{Paired, across_below}
-use Rattle.rules.specs.Reading.Skin.{Different, TriangleIds, triangle_of}
+use Rattle.rules.specs.Reading.Closed.{Paired}
+use Rattle.rules.specs.Reading.Skin.{triangle_of}
 use Rattle.whole.specs.Swap.{swap_ab, swap_bc, swap_cd}
 use Rattle.outward.specs.Orders.{in_any_order}
 use Rattle.outward.specs.Row.{FourIds, own_is}
