@@ -1,5 +1,5 @@
 -- Laws of STL files: lengths, and the header.
-use Rattle.std.specs.Prelude.{◌≡◌, refl, true, ◌↔◌, List, ◌++◌, ℕ, zero, suc, ◌+◌, ◌*◌, ◌≤◌, ◌<◌, eqb, ℤ, length, get_or, take}
+use Rattle.std.specs.Prelude.{◌≡◌, refl, true, ◌↔◌, List, ◌++◌, ℕ, zero, suc, ◌*◌, ◌≤◌, ◌<◌, eqb, ℤ, length, get_or, take}
 use Rattle.std.proofs.Common.{sym, ap, ◌∙◌, arith, length-append, get_or-take, ext_get_or, length-take-le, eqb-true, eq-eqb}
 use Rattle.rules.specs.Below.{gather}
 use Rattle.rules.specs.Words.{bytes_of}

@@ -1,5 +1,5 @@
 -- The closed table: the triangle, edge and vertex rules.
-use Rattle.std.specs.Prelude.{◌≡◌, refl, ◌⊎◌, ◌↔◌, ◌≢◌, true, ◌&&◌, length, get_or}
+use Rattle.std.specs.Prelude.{◌≡◌, refl, ◌↔◌, ◌≢◌, true, ◌&&◌, length, get_or}
 use Rattle.std.proofs.Common.{sym, ◌∙◌, lt_trans, mul-le-mul_left, mul-suc, add-zero, mod-eq_of_lt, arith}
 use Rattle.std.proofs.Math.Path.{ap, subst}
 use Rattle.std.proofs.Math.Logic.{⊎_elim}
