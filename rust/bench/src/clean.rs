@@ -4,7 +4,7 @@
 //! of the differences is told: what else the machine does then falls out.
 
 use crate::{families, grown};
-use bench::{median, micros, Timed};
+use bench::{median, micros, ratio, Timed};
 use common::MOST_ROWS;
 use jobs::{Job, Random};
 use plain::Stages;
@@ -20,11 +20,11 @@ pub(crate) fn print() {
         let mut refused = clean.clone();
         refused.marks[0] = 2;
         let (skin, track, plain) = time(&clean, &refused);
-        let ratio = track.as_secs_f64() / plain.as_secs_f64();
         println!(
-            "| {title} | {skin} | {} | {} | {ratio:.2} |",
+            "| {title} | {skin} | {} | {} | {:.2} |",
             micros(track),
-            micros(plain)
+            micros(plain),
+            ratio(track, plain),
         );
     }
 }

@@ -2,7 +2,7 @@
 //! refused job shows the time up to its code.
 
 use crate::{families, time};
-use bench::micros;
+use bench::{micros, ratios, runs};
 use common::{Buffers, EDGES, MOST_PROPOSALS, MOST_ROWS};
 use jobs::{growth, tables, Job, Random, Table};
 use std::collections::HashMap;
@@ -11,20 +11,39 @@ use std::hash::Hash;
 /// Leaves room for the five rows that codes 8 and 9 glue on.
 const ROWS: usize = MOST_ROWS - 5;
 
+/// The code that comes next when codes 5 to 9 are done.
+const TABLE_DONE: u32 = 10;
+
 pub(crate) fn print() {
-    println!("\nJobs refused as late as their code allows, track / plain:\n");
-    println!("| table | 5 | 6 | 7 | 8 | 9 | 10 | 0, grown, P 0 |");
-    println!("|---|---|---|---|---|---|---|---|");
     let random = &mut Random::new(2);
+    let mut all = Vec::new();
     for (title, table) in families(ROWS, random) {
-        print!("| {title} |");
         for (code, job) in stopping(&table, random) {
-            let times = time(&job);
-            assert_eq!(times.code, code, "{title}");
-            print!(" {} / {} |", micros(times.track), micros(times.plain));
+            let (timed, _) = time(&job);
+            assert_eq!(timed.outcome.code, code, "{title}");
+            all.push((title, code, timed));
+        }
+    }
+    let runs = runs(all.iter().map(|(_, _, timed)| timed));
+    println!("\nJobs refused as late as their code allows, track / plain, the best of {runs}:\n");
+    println!("| table | 5 | 6 | 7 | 8 | 9 | 10: codes 5 to 9 together | 0, grown, P 0 |");
+    println!("|---|---|---|---|---|---|---|---|");
+    for of_table in all.chunk_by(|x, y| x.0 == y.0) {
+        print!("| {} |", of_table[0].0);
+        for (_, code, timed) in of_table {
+            print!(" {} / {}", micros(timed.track), micros(timed.plain));
+            if *code == TABLE_DONE {
+                print!(" = {:.2}", timed.ratio());
+            }
+            print!(" |");
         }
         println!();
     }
+    let done = all.iter().filter(|(_, code, _)| *code == TABLE_DONE);
+    println!(
+        "\nRatios of codes 5 to 9 from {}.",
+        ratios(done.map(|(_, _, timed)| timed))
+    );
 }
 
 /// The jobs with the codes that stop them.
@@ -61,7 +80,7 @@ fn stopping(table: &Table, random: &mut Random) -> Vec<(u32, Job)> {
         (7, open),
         (8, glued(table, &edge).job()),
         (9, glued(table, &[vertex]).job()),
-        (10, odd_mark),
+        (TABLE_DONE, odd_mark),
         (0, grown),
     ]
 }

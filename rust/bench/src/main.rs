@@ -7,7 +7,7 @@ mod points;
 mod proposals;
 mod stl;
 
-use bench::{micros, Timed};
+use bench::{micros, ratios, runs, Timed};
 use common::{MOST_PROPOSALS, MOST_ROWS};
 use jobs::{growth, tables, Job, Random, Table};
 use plain::Stages;
@@ -32,8 +32,13 @@ fn main() {
         println!("The times of track say nothing here: it runs under an emulator.\n");
     }
     let jobs = jobs_to_time(&mut Random::new(1));
-    let times: Vec<Times> = jobs.iter().map(|(_, job)| time(job)).collect();
+    let times = jobs.iter().map(|(_, job)| time(job));
+    let (times, stages): (Vec<Timed>, Vec<Stages>) = times.unzip();
 
+    println!(
+        "Each time of a whole job, and of its stages, is the best of {}.\n",
+        runs(&times)
+    );
     println!("| table | V | N | start | P | taken | skin | track | plain | ratio |");
     println!("|---|---|---|---|---|---|---|---|---|---|");
     for ((name, job), times) in jobs.iter().zip(&times) {
@@ -43,13 +48,14 @@ fn main() {
             job.rows.len(),
             start(job),
             job.proposals.len(),
-            times.taken,
-            times.triangles,
+            times.outcome.taken,
+            times.outcome.triangles,
             micros(times.track),
             micros(times.plain),
-            times.track.as_secs_f64() / times.plain.as_secs_f64(),
+            times.ratio(),
         );
     }
+    println!("\nRatios from {}.", ratios(&times));
 
     println!("\nThe stages of plain:\n");
     println!(
@@ -57,8 +63,7 @@ fn main() {
          | proposals | list |"
     );
     println!("|---|---|---|---|---|---|---|---|---|---|");
-    for ((name, job), times) in jobs.iter().zip(&times) {
-        let stages = &times.stages;
+    for ((name, job), stages) in jobs.iter().zip(&stages) {
         println!(
             "| {name} | {} | {} | {} | {} | {} | {} | {} | {} | {} |",
             start(job),
@@ -107,34 +112,34 @@ fn grown(table: &Table, random: &mut Random) -> Job {
     }
 }
 
-/// Four jobs for each family: from empty marks and from grown ones, without
-/// proposals and with as many as a job may have.
+/// Four jobs for each family.
 fn jobs_to_time(random: &mut Random) -> Vec<(&'static str, Job)> {
     let mut jobs = Vec::new();
     for (title, table) in families(MOST_ROWS, random) {
-        let empty = table.job();
-        let grown = grown(&table, random);
-        for (start, adds) in [(empty, 80), (grown, 60)] {
-            let mut proposed = start.clone();
-            growth::propose(&mut proposed, MOST_PROPOSALS, adds, random);
-            jobs.push((title, start));
-            jobs.push((title, proposed));
-        }
+        let four = four_jobs(table.job(), &table, random);
+        jobs.extend(four.map(|job| (title, job)));
     }
     jobs
 }
 
-/// The best time of each engine, and of each stage of `plain`.
-struct Times {
-    code: u32,
-    taken: u32,
-    triangles: u32,
-    track: Duration,
-    plain: Duration,
-    stages: Stages,
+/// From empty marks and from grown ones, without proposals and with as many as
+/// a job may have.
+fn four_jobs(empty: Job, table: &Table, random: &mut Random) -> [Job; 4] {
+    let grown = Job {
+        marks: grown(table, random).marks,
+        ..empty.clone()
+    };
+    let mut proposed = |start: &Job, adds| {
+        let mut job = start.clone();
+        growth::propose(&mut job, MOST_PROPOSALS, adds, random);
+        job
+    };
+    let [from_empty, from_grown] = [proposed(&empty, 80), proposed(&grown, 60)];
+    [empty, from_empty, grown, from_grown]
 }
 
-fn time(job: &Job) -> Times {
+/// The best time of each engine, and of each stage of `plain`.
+fn time(job: &Job) -> (Timed, Stages) {
     let mut timed = Timed::new(job);
     let mut stages = timed.stages();
     let begun = Instant::now();
@@ -142,14 +147,7 @@ fn time(job: &Job) -> Times {
         timed.run();
         stages = least(&stages, &timed.stages());
     }
-    Times {
-        code: timed.outcome.code,
-        taken: timed.outcome.taken,
-        triangles: timed.outcome.triangles,
-        track: timed.track,
-        plain: timed.plain,
-        stages,
-    }
+    (timed, stages)
 }
 
 fn least(x: &Stages, y: &Stages) -> Stages {

@@ -1,39 +1,58 @@
-//! What points cost: a job with points, listed outward, beside the same job
-//! without them. The two take turns, so that both meet the machine alike.
+//! Jobs with points: the same job without them, with them and listed rising, and
+//! listed outward. The three take turns, so that all meet the machine alike.
 
-use crate::{start, TIME};
-use bench::{micros, Timed};
-use common::{MOST_PROPOSALS, MOST_ROWS};
-use jobs::{growth, placed, Job, Random};
+use crate::{four_jobs, start, TIME};
+use bench::{micros, ratio, ratios, runs, Timed};
+use common::{Order, MOST_ROWS};
+use jobs::{placed, Job, Random};
 use std::time::{Duration, Instant};
 
 /// How many times as long the proved engine may take with points.
 const AIM: f64 = 1.3;
 
 pub(crate) fn print() {
-    println!("\nWith points, outward, and without; the aim for track is a ratio of {AIM}:\n");
+    let jobs = jobs_to_time(&mut Random::new(3));
+    let times: Vec<[Timed; 3]> = jobs.iter().map(|(_, job)| time(job)).collect();
+
+    let runs = runs(times.as_flattened());
+    println!("\nWithout points, and with points listed rising and outward, the best of {runs}:\n");
     println!(
-        "| table | V | N | start | P | skin | track with | without | ratio \
-         | plain with | without | ratio |"
+        "| table | V | N | start | P | skin | without: track | plain | ratio \
+         | rising: track | plain | ratio | outward: track | plain | ratio |"
     );
-    println!("|---|---|---|---|---|---|---|---|---|---|---|---|");
-    for (name, job) in jobs_to_time(&mut Random::new(3)) {
-        let [with, without] = time(&job);
+    println!("|---|---|---|---|---|---|---|---|---|---|---|---|---|---|---|");
+    for ((name, job), three) in jobs.iter().zip(&times) {
+        let [without, rising, outward] = three.each_ref().map(|x| beside(x.track, x.plain));
         println!(
-            "| {name} | {} | {} | {} | {} | {} | {} | {} |",
+            "| {name} | {} | {} | {} | {} | {} | {without} | {rising} | {outward} |",
             job.ids,
             job.rows.len(),
-            start(&job),
+            start(job),
             job.proposals.len(),
-            with.outcome.triangles,
-            beside(with.track, without.track),
-            beside(with.plain, without.plain),
+            three[0].outcome.triangles,
+        );
+    }
+    println!("\nRatios from {}.", ratios(times.as_flattened()));
+
+    println!(
+        "\nWhat points cost, outward beside without; the aim for track is a ratio of {AIM}:\n"
+    );
+    println!(
+        "| table | start | P | track outward | without | ratio | plain outward | without | ratio |"
+    );
+    println!("|---|---|---|---|---|---|---|---|---|");
+    for ((name, job), [without, _, outward]) in jobs.iter().zip(&times) {
+        println!(
+            "| {name} | {} | {} | {} | {} |",
+            start(job),
+            job.proposals.len(),
+            beside(outward.track, without.track),
+            beside(outward.plain, without.plain),
         );
     }
 }
 
-/// Three jobs for each family: from empty marks without proposals, and from
-/// grown ones without proposals and with as many as a job may have.
+/// Four jobs for each family, listed outward.
 pub(crate) fn jobs_to_time(random: &mut Random) -> Vec<(&'static str, Job)> {
     let mut jobs = Vec::new();
     for (name, placed) in placed::each_family(MOST_ROWS, random) {
@@ -41,32 +60,28 @@ pub(crate) fn jobs_to_time(random: &mut Random) -> Vec<(&'static str, Job)> {
         if placed.table.rows.len() < MOST_ROWS * 9 / 10 {
             continue;
         }
-        let empty = placed.job();
-        let mut grown = placed.job();
-        grown.marks = growth::grown_marks(&placed.table, MOST_PROPOSALS, random);
-        let mut proposed = grown.clone();
-        growth::propose(&mut proposed, MOST_PROPOSALS, 60, random);
-        jobs.extend([empty, grown, proposed].map(|job| (name, job)));
+        let four = four_jobs(placed.job(), &placed.table, random);
+        jobs.extend(four.map(|job| (name, job)));
     }
     jobs
 }
 
-/// The job with its points, and without them.
-fn time(job: &Job) -> [Timed; 2] {
-    let without = Job {
-        points: None,
-        ..job.clone()
-    };
-    let mut both = [Timed::new(job), Timed::new(&without)];
-    assert_eq!(both[0].outcome, both[1].outcome);
+/// The job without points, with points and listed rising, and listed outward.
+fn time(job: &Job) -> [Timed; 3] {
+    let mut without = job.clone();
+    without.points = None;
+    let mut rising = job.clone();
+    rising.order = Order::Rising;
+    let mut three = [&without, &rising, job].map(Timed::new);
+    assert!(three.iter().all(|x| x.outcome == three[0].outcome));
     let begun = Instant::now();
-    while begun.elapsed() < 2 * TIME {
-        both.iter_mut().for_each(Timed::run);
+    while begun.elapsed() < 3 * TIME {
+        three.iter_mut().for_each(Timed::run);
     }
-    both
+    three
 }
 
-fn beside(with: Duration, without: Duration) -> String {
-    let ratio = with.as_secs_f64() / without.as_secs_f64();
-    format!("{} | {} | {ratio:.2}", micros(with), micros(without))
+fn beside(time: Duration, other: Duration) -> String {
+    let ratio = ratio(time, other);
+    format!("{} | {} | {ratio:.2}", micros(time), micros(other))
 }

@@ -3,7 +3,7 @@
 //! told. The tallies are counted in both jobs.
 
 use crate::{jobs_to_time, start};
-use bench::{median, micros, Timed};
+use bench::{median, micros, ratio, Timed};
 use jobs::Random;
 
 pub(crate) fn print() {
@@ -24,7 +24,7 @@ pub(crate) fn print() {
             whole.outcome.taken,
             micros(track),
             micros(plain),
-            track.as_secs_f64() / plain.as_secs_f64(),
+            ratio(track, plain),
         );
     }
 }

@@ -2,7 +2,7 @@
 //! what the file of its skin adds to a job.
 
 use crate::{points, TIME};
-use bench::micros;
+use bench::{micros, ratio};
 use common::stl::{file_len, FACET_NUMBERS, MOST_FACETS};
 use common::{Buffers, Order};
 use jobs::{facets, Job, Random};
@@ -104,6 +104,6 @@ fn time(mut track: impl FnMut(), mut plain: impl FnMut()) -> [Duration; 2] {
 }
 
 fn beside([track, plain]: [Duration; 2]) -> String {
-    let ratio = track.as_secs_f64() / plain.as_secs_f64();
+    let ratio = ratio(track, plain);
     format!("{} | {} | {ratio:.2}", micros(track), micros(plain))
 }
