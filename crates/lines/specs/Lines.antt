@@ -1,6 +1,6 @@
 -- Words and numbers, put in turns.
-use Rattle.std.specs.Prelude.{◌≡◌, refl, List, [], ◌∷◌, ◌++◌, ℕ, ◌+◌, ◌/◌, ◌%◌, ◌≤◌, ◌<◌, length, get_or, take, drop}
-use Rattle.std.proofs.Common.{sym, ap, ◌∙◌, append-nil, append_assoc, add-one, arith, length-append, take-append-drop, length-take-le, take-suc}
+use Rattle.std.specs.Prelude.{◌≡◌, refl, List, [], ◌∷◌, ◌++◌, ℕ, ◌+◌, ◌/◌, ◌%◌, ◌≤◌, ◌<◌, length, get_or, take}
+use Rattle.std.proofs.Common.{sym, ap, ◌∙◌, append_assoc, add-one, arith, length-append, length-take-le, take-suc}
 use Rattle.std.proofs.Math.Seq.{take-length}
 use Rattle.lines.specs.Listing.{decimal, spaced, line}
 use Rattle.lines.specs.Decimal.{decimal_one, decimal_more}
@@ -43,16 +43,10 @@ module _ {n : ℕ} (large : 10 ≤ n) where
 
 -- ---- a number of several at each turn
 
-spaced_append : (xs ys : List ℕ) → spaced (xs ++ ys) ≡ spaced xs ++ spaced ys
+pub spaced_append : (xs ys : List ℕ) → spaced (xs ++ ys) ≡ spaced xs ++ spaced ys
 unfolding spaced
 spaced_append [] ys = refl
 spaced_append (x ∷ xs) ys = ap (λ (zs : List ℕ). (32 ∷ decimal x) ++ zs) (spaced_append xs ys) ∙ sym (append_assoc (32 ∷ decimal x) (spaced xs) (spaced ys))
-
-spaced_more : (ns : List ℕ) (i : ℕ) → i < length ns → spaced (take (i + 1) ns) ≡ spaced (take i ns) ++ (32 ∷ decimal (get_or ns i 0))
-unfolding spaced
-spaced_more ns i l =
-    ap (λ (k : ℕ). spaced (take k ns)) (add-one i) ∙ ap spaced (take-suc ns i 0 l) ∙ spaced_append (take i ns) (get_or ns i 0 ∷ [])
-    ∙ ap (λ (xs : List ℕ). spaced (take i ns) ++ xs) (append-nil (32 ∷ decimal (get_or ns i 0)))
 
 abbrev pub NumberTurns : List ℕ → List ℕ → ℕ → List ℕ → ℕ → ℕ → Type 0
 NumberTurns ns d at d' n i = Turns (λ k. spaced (take k ns)) (length ns) d at d' n i
@@ -60,22 +54,6 @@ NumberTurns ns d at d' n i = Turns (λ k. spaced (take k ns)) (length ns) d at d
 pub number_begins : (ns d : List ℕ) (at : ℕ) → NumberTurns ns d at d at 0
 unfolding spaced
 number_begins ns d at = turns_begin (λ k. spaced (take k ns)) (length ns) d at refl
-
-module _ (ns : List ℕ) {d d' : List ℕ} {at n i : ℕ} (t : NumberTurns ns d at d' n i) (l : i < length ns) where
-  pub number_room : at + length (spaced ns) ≤ length d → n + 1 + length (decimal (get_or ns i 0)) ≤ length d'
-  number_room room =
-      omega (
-        arith,
-        t.put.behind,
-        put_kept t.put,
-        ap length (spaced_more ns i l),
-        length-append (spaced (take i ns)) (32 ∷ decimal (get_or ns i 0)),
-        length-append (spaced (take (i + 1) ns)) (spaced (drop (i + 1) ns)),
-        ap length (sym (spaced_append (take (i + 1) ns) (drop (i + 1) ns)) ∙ ap spaced (take-append-drop (i + 1) ns)),
-      )
-
-  pub number_turn : {d'' : List ℕ} {m : ℕ} → Put (32 ∷ decimal (get_or ns i 0)) d' n d'' m → NumberTurns ns d at d'' m (i + 1)
-  number_turn q = one_turn t l (spaced_more ns i l) q
 
 pub number_ends : (ns : List ℕ) {d d' : List ℕ} {at n i : ℕ} → NumberTurns ns d at d' n i → length ns ≤ i → Put (spaced ns) d at d' n
 number_ends ns t l = rw (take-length ns) at (turns_end t l)

@@ -2,48 +2,26 @@
 use Rattle.std.specs.Prelude.{◌≡◌, refl, List, [], ◌∷◌, ℕ, suc, ◌+◌, ◌*◌, ◌^◌, ◌≤◌, ◌<◌, length, get_or}
 use Rattle.std.proofs.Common.{le_antisymm, mul-le-mul_left, arith, length-append}
 use Rattle.rules.specs.Below.{gather}
-use Rattle.rules.specs.Job.{most_proposals}
 use Rattle.rules.specs.Laws.Lists.{gather_more}
-use Rattle.lines.specs.Listing.{decimal, spaced, line, word_done, word_refused, word_p, word_t, answer_line, triangle_line}
+use Rattle.lines.specs.Listing.{decimal, spaced, line, word_t, triangle_line}
 use Rattle.lines.specs.Put.{Put, put_kept, Turns, turns_begin, one_turn, turns_end}
 use Rattle.lines.specs.Decimal.{few_digits}
-use Rattle.lines.specs.Lines.{line_length}
 
 -- each number is below a bound
-abbrev EachBelow : ℕ → List ℕ → Type 0
+abbrev pub EachBelow : ℕ → List ℕ → Type 0
 EachBelow most [] = Unit
 EachBelow most (n ∷ ns) = (n < most) × EachBelow most ns
 
-spaced_few : (k : ℕ) (ns : List ℕ) → EachBelow (10 ^ suc k) ns → length (spaced ns) ≤ (k + 2) * length ns
+pub spaced_few : (k : ℕ) (ns : List ℕ) → EachBelow (10 ^ suc k) ns → length (spaced ns) ≤ (k + 2) * length ns
 unfolding spaced
 spaced_few k [] each = omega arith
 spaced_few k (n ∷ ns) each = omega (arith, length-append (32 ∷ decimal n) (spaced ns), few_digits k n each.0, spaced_few k ns each.1)
 
--- numbers of at most k + 1 digits, each with its space
-line_few : (k : ℕ) (word ns : List ℕ) → EachBelow (10 ^ suc k) ns → length (line word ns) ≤ length word + (k + 2) * length ns + 1
-line_few k word ns each = omega (arith, line_length word ns, spaced_few k ns each)
-
--- the first line of a listing
-module _ {a b : ℕ} (la : a < 18446744073709551616) (lb : b < 18446744073709551616) where
-  pub done_few : {c : ℕ} → c < 18446744073709551616 → length (line word_done (a ∷ b ∷ c ∷ [])) ≤ 68
-  done_few {c} lc = line_few 19 word_done (a ∷ b ∷ c ∷ []) (omega arith, (omega arith, (omega arith, tt)))
-
--- the line of a refusal
-each_below : (most : ℕ) (ns : List ℕ) → ((k : ℕ) → get_or ns k 0 < most) → EachBelow most ns
+pub each_below : (most : ℕ) (ns : List ℕ) → ((k : ℕ) → get_or ns k 0 < most) → EachBelow most ns
 each_below most [] each = tt
 each_below most (n ∷ ns) each = (each 0, each_below most ns (λ k. each (suc k)))
 
-pub refused_few : (ns : List ℕ) → ((k : ℕ) → get_or ns k 0 < 18446744073709551616) → length (line word_refused ns) ≤ 8 + 21 * length ns
-refused_few ns each = omega (arith, line_few 19 word_refused ns (each_below (10 ^ 20) ns (λ k. omega (arith, each k))))
-
-pub answer_few : (answers : List ℕ) (k : ℕ) → k < most_proposals → get_or answers k 0 < 256 → length (answer_line answers k) ≤ 12
-unfolding answer_line
-answer_few answers k l m = line_few 3 word_p (k ∷ get_or answers k 0 ∷ []) (omega arith, (omega arith, tt))
-
 module _ {a b c : ℕ} where
-  pub triangle_few : a < 4294967296 → b < 4294967296 → c < 4294967296 → length (line word_t (a ∷ b ∷ c ∷ [])) ≤ 35
-  triangle_few la lb lc = line_few 9 word_t (a ∷ b ∷ c ∷ []) (omega arith, (omega arith, (omega arith, tt)))
-
   pub triangle_put : (ids : List ℕ) (k : ℕ) → a ≡ get_or ids (3 * k) 0 → b ≡ get_or ids (3 * k + 1) 0 → c ≡ get_or ids (3 * k + 2) 0
       → {d d' : List ℕ} {at n : ℕ} → Put (line word_t (a ∷ b ∷ c ∷ [])) d at d' n → Put (triangle_line ids k) d at d' n
   unfolding triangle_line

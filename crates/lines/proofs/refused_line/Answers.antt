@@ -1,7 +1,7 @@
 use Rattle.std.proofs.Common.{◌≤◌, length, arith}
 use Rattle.lines.specs.Listing.{line, word_refused}
 use Rattle.lines.specs.Put.{put_front}
-use Rattle.lines.specs.Room.{refused_few}
+use Rattle.lines.proofs.Room.{refused_few}
 use Rattle.lines.proofs.refused_line.Goals as goal
 
 pub put_line-requires : goal.put_line-requires

@@ -1,6 +1,6 @@
 use Rattle.std.proofs.Common.{arith}
 use Rattle.lines.specs.Listing.{answer_line}
-use Rattle.lines.specs.Room.{answer_few}
+use Rattle.lines.proofs.Room.{answer_few}
 use Rattle.lines.proofs.done.put_answer.Goals as goal
 
 pub put_line-requires : goal.put_line-requires

@@ -1,7 +1,7 @@
 use Rattle.std.proofs.Common.{arith}
 use Rattle.lines.specs.Listing.{done_text}
 use Rattle.lines.specs.Put.{put_more, put_kept}
-use Rattle.lines.specs.Room.{done_few}
+use Rattle.lines.proofs.Room.{done_few}
 use Rattle.lines.proofs.done.put_done.Goals as goal
 
 pub put_line-behind_first-requires : goal.put_line-behind_first-requires

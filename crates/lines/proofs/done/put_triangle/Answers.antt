@@ -1,5 +1,6 @@
 use Rattle.std.proofs.Common.{arith}
-use Rattle.lines.specs.Room.{triangle_few, triangle_put}
+use Rattle.lines.specs.Room.{triangle_put}
+use Rattle.lines.proofs.Room.{triangle_few}
 use Rattle.lines.proofs.done.put_triangle.Goals as goal
 
 pub put_line-requires : goal.put_line-requires

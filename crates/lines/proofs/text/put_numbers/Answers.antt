@@ -1,4 +1,5 @@
-use Rattle.lines.specs.Lines.{number_begins, number_room, number_turn}
+use Rattle.lines.specs.Lines.{number_begins}
+use Rattle.lines.proofs.Lines.{number_room, number_turn}
 use Rattle.lines.proofs.text.put_numbers.Goals as goal
 
 pub loop-i-init : goal.loop-i-init
