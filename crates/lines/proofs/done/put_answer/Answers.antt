@@ -6,9 +6,9 @@ use Rattle.lines.proofs.done.put_answer.Goals as goal
 pub put_line-requires : goal.put_line-requires
 unfolding answer_line
 put_line-requires c =
-    omega (arith, answer_few c.args.answers.now c.args.k c.requires.0 (omega (arith, c.shared_slice_known-2-1.given c.args.k)))
+    omega (arith, answer_few c.args.answers.now c.args.k c.requires.0 (omega (arith, c.type_inv.answers c.args.k)))
 
 pub returns : goal.returns
 unfolding answer_line
 returns c =
-    (c.put_line.ensures, omega (arith, c.put_line.ensures.behind, answer_few c.args.answers.now c.args.k c.requires.0 (omega (arith, c.shared_slice_known-2-1.given c.args.k))))
+    (c.put_line.ensures, omega (arith, c.put_line.ensures.behind, answer_few c.args.answers.now c.args.k c.requires.0 (omega (arith, c.type_inv.answers c.args.k))))

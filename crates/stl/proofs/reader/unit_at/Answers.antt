@@ -5,7 +5,7 @@ use Rattle.rules.specs.Words.{word}
 use Rattle.stl.specs.Units.{units_said, units_said_lem}
 use Rattle.stl.proofs.reader.unit_at.Goals as goal
 
--- from the old file:
+-- number i of all stands in facet i / 9, as its number i % 9
 number_is : (file : List ℕ) (i : ℕ) {bits : ℕ} → bits ≡ word 4 file (96 + 50 * (i / 9) + 4 * (i % 9)) → units_of bits ≡ unit_at file i
 unfolding unit_at bits_at
 number_is file i e = let place : 96 + 50 * (i / 9) + 4 * (i % 9) ≡ number_at (i / 9) (i % 9) = omega arith in ap units_of (e ∙ ap (word 4 file) place)

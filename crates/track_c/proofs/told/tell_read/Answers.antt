@@ -5,7 +5,7 @@ use Rattle.stl.specs.declared.reader.Reading.{Reading}
 use Rattle.track_c.specs.Told.{read_words, bits_back}
 use Rattle.track_c.proofs.told.tell_read.Goals as goal
 
--- from the old file:
+-- the words of a case are those of the answer that is this case
 told : (outcome : List ℕ) {after : List ℕ} {r a : Reading} → r ≡ a → after ≡ sets outcome 0 (read_words a) → after ≡ sets outcome 0 (read_words r)
 told outcome e put = put ∙ ap (λ (r : Reading). sets outcome 0 (read_words r)) (sym e)
 

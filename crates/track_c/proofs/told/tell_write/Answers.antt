@@ -5,7 +5,7 @@ use Rattle.stl.specs.declared.writer.Writing.{Writing}
 use Rattle.track_c.specs.Told.{write_words}
 use Rattle.track_c.proofs.told.tell_write.Goals as goal
 
--- from the old file:
+-- the words of a case are those of the answer that is this case
 told : (outcome : List ℕ) {after : List ℕ} {r a : Writing} → r ≡ a → after ≡ sets outcome 0 (write_words a) → after ≡ sets outcome 0 (write_words r)
 told outcome e put = put ∙ ap (λ (r : Writing). sets outcome 0 (write_words r)) (sym e)
 
