@@ -1,8 +1,8 @@
 -- The rules of a closed table, first match decides.
-use Rattle.std.specs.Prelude.{◌≡◌, refl, not, List, [], ◌∷◌, ℕ, ◌+◌, ◌*◌, ◌≤◌, length, get_or, replicate}
+use Rattle.std.specs.Prelude.{◌≡◌, refl, not, Option, Some, None, Result, Ok, Err, List, [], ◌∷◌, ℕ, ◌+◌, ◌*◌, ◌≤◌, length, get_or, replicate}
 use Rattle.std.proofs.Math.Path.{sym, ap}
 use Rattle.std.proofs.Common.{◌∙◌, arith}
-use Rattle.std.proofs.Math.Option.{Option}
+use Rattle.std.proofs.Math.Option as rules
 use Rattle.rules.specs.Below.{lowest}
 use Rattle.rules.specs.Table.{Table, neighbour_list, triangles_shared, edges_joined, vertices_joined}
 use Rattle.rules.specs.First.{Test, Verdict, first_match}
@@ -12,11 +12,9 @@ use Rattle.rules.specs.Reading.Closed.{list_length, list_at}
 use Rattle.rules.proofs.Reading.Codes.{none_paired}
 use Rattle.rules.specs.Laws.First.{match_here, match_later, match_end}
 use Rattle.rules.specs.Laws.Below.{lowest_same}
-use Rattle.values.specs.declared.Found.{Found}
-use Rattle.values.specs.declared.Found.TheVariants.{At, Nowhere}
-use Rattle.values.specs.Search.{place_of}
+use Rattle.values.specs.Places.{place_of}
 use Rattle.table.specs.declared.Broken.{Broken}
-use Rattle.table.specs.declared.Broken.TheVariants.{Nothing, Row, Order, Triangle, Edge, Vertex}
+use Rattle.table.specs.declared.Broken.TheVariants.{Row, Order, Triangle, Edge, Vertex}
 use Rattle.table.specs.Rows.{rows_in, table_in, OrderedRows}
 use Rattle.table.specs.Triangles.{unshared, Written}
 use Rattle.table.specs.Ground.{Ground}
@@ -24,22 +22,18 @@ use Rattle.table.specs.Faces.{edges_at, edges_each, vertices_at, vertices_each}
 use Rattle.table.specs.Holders.{unjoined, edges_joined_lem, vertices_joined_lem}
 
 -- document 01's code and place
-abbrev pub verdict_of : Broken → Verdict
-verdict_of Nothing = record { code = 0; place = 0 }
-verdict_of (Row r) = record { code = 5; place = r }
-verdict_of (Order r) = record { code = 6; place = r }
-verdict_of (Triangle r) = record { code = 7; place = r }
-verdict_of (Edge r) = record { code = 8; place = r }
-verdict_of (Vertex r) = record { code = 9; place = r }
+abbrev pub verdict_of : Result (Unit {0}) Broken → Verdict
+verdict_of (Ok _) = record { code = 0; place = 0 }
+verdict_of (Err (Row r)) = record { code = 5; place = r }
+verdict_of (Err (Order r)) = record { code = 6; place = r }
+verdict_of (Err (Triangle r)) = record { code = 7; place = r }
+verdict_of (Err (Edge r)) = record { code = 8; place = r }
+verdict_of (Err (Vertex r)) = record { code = 9; place = r }
 
 -- what is left in the work words: all zero where a rule is broken
-unfoldable pub left_of : Broken → List ℕ → List ℕ
-left_of Nothing work = work
-left_of (Row r) work = replicate (length work) 0
-left_of (Order r) work = replicate (length work) 0
-left_of (Triangle r) work = replicate (length work) 0
-left_of (Edge r) work = replicate (length work) 0
-left_of (Vertex r) work = replicate (length work) 0
+unfoldable pub left_of : Result (Unit {0}) Broken → List ℕ → List ℕ
+left_of (Ok _) work = work
+left_of (Err _) work = replicate (length work) 0
 
 -- the tests of codes 8 and 9, and of 7 to 9
 unfoldable pub joined_tests : Table → List Test
@@ -51,37 +45,37 @@ shared_tests t = (λ _. lowest t.rows (λ r. not (triangles_shared t r))) ∷ jo
 -- ---- codes 8 and 9
 
 module _ (bytes : List ℕ) where
-  module _ (edge : Found) (looked : place_of edge ≡ lowest (rows_in bytes) (unjoined (table_in bytes) edges_at edges_each)) where
-    edge_test : {o : Option ℕ} → place_of edge ≡ o → lowest (rows_in bytes) (λ r. not (edges_joined (table_in bytes) r)) ≡ o
+  module _ (edge : Option ℕ) (looked : place_of edge ≡ lowest (rows_in bytes) (unjoined (table_in bytes) edges_at edges_each)) where
+    edge_test : {o : rules.Option ℕ} → place_of edge ≡ o → lowest (rows_in bytes) (λ r. not (edges_joined (table_in bytes) r)) ≡ o
     edge_test e =
         lowest_same (rows_in bytes) (λ r. not (edges_joined (table_in bytes) r)) (unjoined (table_in bytes) edges_at edges_each) (λ r _. ap not (edges_joined_lem (table_in bytes) r)) ∙ sym looked ∙ e
 
-    pub edge_broken : {r : ℕ} → edge ≡ At r → verdict_of (Edge r) ≡ first_match 8 (joined_tests (table_in bytes))
+    pub edge_broken : {r : ℕ} → edge ≡ Some r → verdict_of (Err (Edge r)) ≡ first_match 8 (joined_tests (table_in bytes))
     unfolding joined_tests
     edge_broken {r} e = sym (match_here 8 _ _ r (edge_test (ap place_of e)))
 
-    module _ (whole : edge ≡ Nowhere) (vertex : Found) (looked' : place_of vertex ≡ lowest (rows_in bytes) (unjoined (table_in bytes) vertices_at vertices_each)) where
-      vertex_test : {o : Option ℕ} → place_of vertex ≡ o → lowest (rows_in bytes) (λ r. not (vertices_joined (table_in bytes) r)) ≡ o
+    module _ (whole : edge ≡ None) (vertex : Option ℕ) (looked' : place_of vertex ≡ lowest (rows_in bytes) (unjoined (table_in bytes) vertices_at vertices_each)) where
+      vertex_test : {o : rules.Option ℕ} → place_of vertex ≡ o → lowest (rows_in bytes) (λ r. not (vertices_joined (table_in bytes) r)) ≡ o
       vertex_test e =
           lowest_same (rows_in bytes) (λ r. not (vertices_joined (table_in bytes) r)) (unjoined (table_in bytes) vertices_at vertices_each) (λ r _. ap not (vertices_joined_lem (table_in bytes) r refl))
           ∙ sym looked' ∙ e
 
-      pub vertex_broken : {r : ℕ} → vertex ≡ At r → verdict_of (Vertex r) ≡ first_match 8 (joined_tests (table_in bytes))
+      pub vertex_broken : {r : ℕ} → vertex ≡ Some r → verdict_of (Err (Vertex r)) ≡ first_match 8 (joined_tests (table_in bytes))
       unfolding joined_tests
       vertex_broken {r} e = sym (match_later 8 _ _ (edge_test (ap place_of whole)) ∙ match_here 9 _ _ r (vertex_test (ap place_of e)))
 
-      pub all_joined : vertex ≡ Nowhere → verdict_of Nothing ≡ first_match 8 (joined_tests (table_in bytes))
+      pub all_joined : vertex ≡ None → verdict_of (Ok tt) ≡ first_match 8 (joined_tests (table_in bytes))
       unfolding joined_tests
       all_joined e = sym (match_later 8 _ _ (edge_test (ap place_of whole)) ∙ match_later 9 _ _ (vertex_test (ap place_of e)) ∙ match_end 10)
 
 -- ---- codes 7 to 9
 
-module _ (bytes : List ℕ) (triangle : Found) (looked : place_of triangle ≡ lowest (rows_in bytes) (unshared (table_in bytes))) where
-  pub triangle_broken : {r : ℕ} → triangle ≡ At r → verdict_of (Triangle r) ≡ first_match 7 (shared_tests (table_in bytes))
+module _ (bytes : List ℕ) (triangle : Option ℕ) (looked : place_of triangle ≡ lowest (rows_in bytes) (unshared (table_in bytes))) where
+  pub triangle_broken : {r : ℕ} → triangle ≡ Some r → verdict_of (Err (Triangle r)) ≡ first_match 7 (shared_tests (table_in bytes))
   unfolding shared_tests
   triangle_broken {r} e = sym (match_here 7 _ _ r (sym looked ∙ ap place_of e))
 
-  module _ (whole : triangle ≡ Nowhere) where
+  module _ (whole : triangle ≡ None) where
     pub triangle_fine : first_match 7 (shared_tests (table_in bytes)) ≡ first_match 8 (joined_tests (table_in bytes))
     unfolding shared_tests
     triangle_fine = match_later 7 _ _ (sym looked ∙ ap place_of whole)
@@ -104,20 +98,20 @@ zeros_left bytes work room = ap (λ (n : ℕ). replicate {A = ℕ} n 0) (sym (wr
 
 -- ---- codes 5 and 6
 
-module _ (bytes : List ℕ) (id_count : ℕ) (row : Found) (looked : place_of row ≡ lowest (rows_in bytes) (bad_row (table_in bytes) id_count)) where
-  pub row_broken : {r : ℕ} → row ≡ At r → verdict_of (Row r) ≡ first_match 5 (table_tests (table_in bytes) id_count)
+module _ (bytes : List ℕ) (id_count : ℕ) (row : Option ℕ) (looked : place_of row ≡ lowest (rows_in bytes) (bad_row (table_in bytes) id_count)) where
+  pub row_broken : {r : ℕ} → row ≡ Some r → verdict_of (Err (Row r)) ≡ first_match 5 (table_tests (table_in bytes) id_count)
   unfolding table_tests
   row_broken {r} e = sym (match_here 5 _ _ r (sym looked ∙ ap place_of e))
 
-  module _ (whole : row ≡ Nowhere) where
-    module _ (order : Found) (looked' : place_of order ≡ lowest (rows_in bytes) (not_after (table_in bytes))) where
-      pub order_broken : {r : ℕ} → order ≡ At r → verdict_of (Order r) ≡ first_match 5 (table_tests (table_in bytes) id_count)
+  module _ (whole : row ≡ None) where
+    module _ (order : Option ℕ) (looked' : place_of order ≡ lowest (rows_in bytes) (not_after (table_in bytes))) where
+      pub order_broken : {r : ℕ} → order ≡ Some r → verdict_of (Err (Order r)) ≡ first_match 5 (table_tests (table_in bytes) id_count)
       unfolding table_tests
       order_broken {r} e = sym (match_later 5 _ _ (sym looked ∙ ap place_of whole) ∙ match_here 6 _ _ r (sym looked' ∙ ap place_of e))
 
-      pub order_fine : order ≡ Nowhere → first_match 5 (table_tests (table_in bytes) id_count) ≡ first_match 7 (shared_tests (table_in bytes))
+      pub order_fine : order ≡ None → first_match 5 (table_tests (table_in bytes) id_count) ≡ first_match 7 (shared_tests (table_in bytes))
       unfolding table_tests shared_tests joined_tests
       order_fine e = match_later 5 _ _ (sym looked ∙ ap place_of whole) ∙ match_later 6 _ _ (sym looked' ∙ ap place_of e)
 
-      pub rows_ordered : rows_in bytes ≤ most_rows → order ≡ Nowhere → OrderedRows bytes id_count
+      pub rows_ordered : rows_in bytes ≤ most_rows → order ≡ None → OrderedRows bytes id_count
       rows_ordered few e = record { few = few; rows = sym looked ∙ ap place_of whole; order = sym looked' ∙ ap place_of e }

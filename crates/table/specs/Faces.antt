@@ -3,7 +3,7 @@
 use Rattle.std.specs.Prelude.{◌≡◌, refl, ◌⊎◌, false, not, ◌&&◌, ◌||◌, cond, eqb, get_or}
 use Rattle.std.proofs.Common.{sym, ap, ◌∙◌, inl, inr, arith, lit<, lit≤, eqb-true, eq-eqb, ltb-true, lt-ltb, ltb-false}
 use Rattle.std.proofs.Math.Logic.{⊎_elim}
-use Rattle.std.proofs.Math.Bool.{Bool, true}
+use Rattle.std.proofs.Math.Bool.{Bool, true, and_assoc}
 use Rattle.std.specs.Bool.{beq}
 use mathlib.Core.List.{List, [], ◌∷◌, ◌++◌, map, flatten}
 use Prim.Native.Nat.{ℕ, ◌+◌, ◌*◌, ◌%◌, ◌≤◌, ◌<◌}
@@ -16,6 +16,8 @@ use Rattle.rules.specs.Laws.Truth.{true_or_false, not_both, same_test, and_first
 use Rattle.rules.specs.Laws.Below.{any_some, all_each}
 use Rattle.rules.specs.Reading.Rows.{Rising, one_corner, Holds, holds_reads}
 use Rattle.table.specs.declared.faces.Face.{Face}
+use Rattle.table.specs.declared.faces.FaceKind.{FaceKind}
+use Rattle.table.specs.declared.faces.FaceKind.TheVariants.{Triangles, Edges, Vertices}
 
 -- ---- the fixed table
 
@@ -66,6 +68,22 @@ edges = inr (inl (refl, refl))
 abbrev pub vertices : Kind vertices_at vertices_each
 vertices = inr (inr (refl, refl))
 
+-- where the faces of a kind begin, and how many of it a row has
+abbrev pub first_of : FaceKind → ℕ
+first_of Triangles = triangles_at
+first_of Edges = edges_at
+first_of Vertices = vertices_at
+
+abbrev pub each_of : FaceKind → ℕ
+each_of Triangles = triangles_each
+each_of Edges = edges_each
+each_of Vertices = vertices_each
+
+pub kind_of : (k : FaceKind) → Kind (first_of k) (each_of k)
+kind_of Triangles = triangles
+kind_of Edges = edges
+kind_of Vertices = vertices
+
 -- ---- ids of a face
 
 unfoldable pub face_of : Table → ℕ → ℕ → Face
@@ -94,6 +112,11 @@ same_ids_lem f g e =
     let eb = eqb-true f.b g.b (and_second (eqb f.a g.a) (eqb f.b g.b) two) in
     let ec = eqb-true f.c g.c (and_second (eqb f.a g.a && eqb f.b g.b) (eqb f.c g.c) e) in
     λ i. record { a = ea i; b = eb i; c = ec i }
+
+-- `==` of two faces
+pub equal_ids : (f g : Face) {b : Bool} → b ≡ (eqb f.a g.a && (eqb f.b g.b && eqb f.c g.c)) → b ≡ same_ids f g
+unfolding same_ids
+equal_ids f g e = e ∙ sym (and_assoc (eqb f.a g.a) (eqb f.b g.b) (eqb f.c g.c))
 
 pub ids_same : (f g : Face) → f ≡ g → same_ids f g ≡ true
 unfolding same_ids

@@ -1,5 +1,5 @@
 -- The triangles of a row, found by like places: the triangle rule and the row across.
-use Rattle.std.specs.Prelude.{◌≡◌, refl, ◌≢◌, Bool, true, ◌&&◌, ℕ, ◌+◌, ◌*◌, ◌/◌, ◌%◌, ◌≤◌, ◌<◌, length, set}
+use Rattle.std.specs.Prelude.{◌≡◌, refl, Option, None, ◌≢◌, Bool, true, ◌&&◌, ℕ, ◌+◌, ◌*◌, ◌/◌, ◌%◌, ◌≤◌, ◌<◌, length, set}
 use Rattle.std.proofs.Math.Path.{sym, ap}
 use Rattle.std.proofs.Common.{◌∙◌, not-suc-le-zero, le_antisymm, zero-add, mod-lt, arith, lit<, length-set, eq-eqb, ne_eqb}
 use mathlib.Core.List.{List, map, flatten}
@@ -19,8 +19,6 @@ use Rattle.rules.specs.Reading.Rows.{Rising}
 use Rattle.rules.specs.Reading.Neighbours.{side_reads}
 use Rattle.rules.specs.Reading.Closed.{across_other}
 use Rattle.table.specs.declared.faces.Face.{Face}
-use Rattle.values.specs.declared.Found.{Found}
-use Rattle.values.specs.declared.Found.TheVariants.{Nowhere}
 use Rattle.table.specs.Faces.{triangles, face_corners, corner_of, face_of, holds_ids}
 use Rattle.rules.specs.Laws.Highest.{highest, highest_is}
 use Rattle.table.specs.Walk.{another}
@@ -33,9 +31,9 @@ abbrev pub unshared : Table → ℕ → Bool
 unshared t r = not (triangles_shared t r)
 
 -- Once code 7 was looked for: where no row breaks the rule, the list stands at the front.
-pub record Written (t : Table) (broken : Found) (work₀ work : List ℕ) : Type 0 where
+pub record Written (t : Table) (broken : Option ℕ) (work₀ work : List ℕ) : Type 0 where
   pub kept : length work ≡ length work₀
-  pub list : broken ≡ Nowhere → work ≡ written (neighbour_list t) work₀
+  pub list : broken ≡ None → work ≡ written (neighbour_list t) work₀
 
 -- ---- place by place
 

@@ -1,16 +1,15 @@
 // The neighbour list. Code 7.
 ghost use Rattle.std.specs.Prelude.{◌≡◌, ◌*◌, ◌≤◌, ◌<◌, length, set};
 ghost use Rattle.rules.specs.Below.{lowest};
-ghost use Rattle.values.specs.Search.{place_of};
+ghost use Rattle.values.specs.Places.{place_of};
 ghost use Rattle.table.specs.Rows.{rows_in, table_in, RisingRows};
-ghost use Rattle.table.specs.Faces.{face_corners, triangles_at, triangles_each};
+ghost use Rattle.table.specs.Faces.{triangles_at, triangles_each};
 ghost use Rattle.table.specs.Places.{Chained, Room};
 ghost use Rattle.table.specs.Triangles.{unshared, Written};
 
 use crate::chains::{like_places, thread};
-use crate::faces::{TRIANGLES, TRIANGLES_AT, corner_table};
+use crate::faces::FaceKind;
 use crate::row_count;
-use values::Found;
 
 // Writes a row's number at a place of the list.
 fn put(work: &mut [u32], place: usize, row: usize)
@@ -23,26 +22,22 @@ fn put(work: &mut [u32], place: usize, row: usize)
 // The first row with a triangle that is not in exactly two rows; without one, the neighbour list is written.
 fn neighbours_by(
     rows: &[u8],
-    corners: &[u8; 42],
     head: &[u16; 8192],
     next: &[u16; 12288],
     work: &mut [u32],
-) -> Found
-    requires { RisingRows rows.now × Chained (table_in rows.now) triangles_at triangles_each head.now next.now × (4 * rows_in rows.now ≤ length work.old) × (corners.now ≡ face_corners) }
+) -> Option<usize>
+    requires { RisingRows rows.now × Chained (table_in rows.now) triangles_at triangles_each head.now next.now × (4 * rows_in rows.now ≤ length work.old) }
     ensures { (place_of result ≡ lowest (rows_in rows.now) (unshared (table_in rows.now)))
         × Written (table_in rows.now) result work.old work.new }
 {
-    let end = TRIANGLES * row_count(rows);
-    let mut place = 0;
-    while place < end {
-        let found = like_places(rows, corners, TRIANGLES_AT, TRIANGLES, head, next, place);
+    for place in 0..4 * row_count(rows) {
+        let found = like_places(rows, FaceKind::Triangles, head, next, place);
         if found.count != 2 {
-            return Found::At(place / TRIANGLES);
+            return Some(place / 4);
         }
-        put(work, place, found.other / TRIANGLES);
-        place += 1;
+        put(work, place, found.other / 4);
     }
-    Found::Nowhere
+    None
 }
 
 pub(crate) fn neighbours(
@@ -50,12 +45,11 @@ pub(crate) fn neighbours(
     head: &mut [u16; 8192],
     next: &mut [u16; 12288],
     work: &mut [u32],
-) -> Found
+) -> Option<usize>
     requires { RisingRows rows.now × (4 * rows_in rows.now ≤ length work.old) × Room next.old }
     ensures { (place_of result ≡ lowest (rows_in rows.now) (unshared (table_in rows.now)))
         × Written (table_in rows.now) result work.old work.new × Room next.new }
 {
-    let corners = corner_table();
-    thread(rows, &corners, TRIANGLES_AT, TRIANGLES, head, next);
-    neighbours_by(rows, &corners, head, next, work)
+    thread(rows, FaceKind::Triangles, head, next);
+    neighbours_by(rows, head, next, work)
 }

@@ -4,14 +4,14 @@ ghost use Rattle.std.specs.Prelude.{◌≡◌, not, ◌*◌, ◌≤◌, ◌<◌,
 ghost use Rattle.rules.specs.Below.{any, count};
 ghost use Rattle.table.specs.Rows.{table_in, rows_in};
 ghost use Rattle.rules.specs.Laws.Highest.{highest};
-ghost use Rattle.table.specs.Faces.{face_corners, Kind};
+ghost use Rattle.table.specs.Faces.{first_of, each_of};
 ghost use Rattle.table.specs.Places.{Chained, Room, like};
 ghost use Rattle.table.specs.Walk.{another};
 ghost use Rattle.rules.specs.Job.{most_rows};
 
-use crate::faces::{face_at, key_of, same_ids};
+use crate::faces::FaceKind;
 use crate::row_count;
-use values::{choose, from_u16};
+use values::choose;
 
 // Puts a place before the chain of its key.
 fn link(key: usize, place: usize, head: &mut [u16; 8192], next: &mut [u16; 12288])
@@ -22,44 +22,15 @@ fn link(key: usize, place: usize, head: &mut [u16; 8192], next: &mut [u16; 12288
     head[key] = place as u16;
 }
 
-pub(crate) fn thread(
-    rows: &[u8],
-    corners: &[u8; 42],
-    base: usize,
-    m: usize,
-    head: &mut [u16; 8192],
-    next: &mut [u16; 12288],
-)
-    requires { Kind base m × (rows_in rows.now ≤ most_rows) × Room next.old × (corners.now ≡ face_corners) }
-    ensures { Chained (table_in rows.now) base m head.new next.new × Room next.new }
+pub(crate) fn thread(rows: &[u8], kind: FaceKind, head: &mut [u16; 8192], next: &mut [u16; 12288])
+    requires { (rows_in rows.now ≤ most_rows) × Room next.old }
+    ensures { Chained (table_in rows.now) (first_of kind) (each_of kind) head.new next.new × Room next.new }
 {
-    let mut place = m * row_count(rows);
-    *head = [place as u16; 8192];
-    while 0 < place {
-        place -= 1;
-        link(
-            key_of(face_at(rows, corners, base, m, place)),
-            place,
-            head,
-            next,
-        );
+    let end = kind.each() * row_count(rows);
+    *head = [end as u16; 8192];
+    for place in (0..end).rev() {
+        link(kind.face_at(rows, place).key(), place, head, next);
     }
-}
-
-// The first place of a key.
-fn first_place(head: &[u16; 8192], key: usize) -> usize
-    requires { key < 8192 }
-    ensures { result ≡ get_or head.now key 0 }
-{
-    from_u16(head[key])
-}
-
-// The place after one in its chain.
-fn next_place(next: &[u16; 12288], place: usize) -> usize
-    requires { place < 12288 }
-    ensures { result ≡ get_or next.now place 0 }
-{
-    from_u16(next[place])
 }
 
 #[derive(Clone, Copy)]
@@ -71,27 +42,25 @@ pub(crate) struct Like {
 // How many places have the ids of a place, and the highest of them that is another.
 pub(crate) fn like_places(
     rows: &[u8],
-    corners: &[u8; 42],
-    base: usize,
-    m: usize,
+    kind: FaceKind,
     head: &[u16; 8192],
     next: &[u16; 12288],
     place: usize,
 ) -> Like
-    requires { Kind base m × (rows_in rows.now ≤ most_rows) × (place < m * rows_in rows.now) × Chained (table_in rows.now) base m head.now next.now × (corners.now ≡ face_corners) }
-    ensures { (result.count ≡ count (m * rows_in rows.now) (like (table_in rows.now) base m place))
-        × (result.other ≡ highest (m * rows_in rows.now) (another (table_in rows.now) base m place)) }
+    requires { (rows_in rows.now ≤ most_rows) × (place < each_of kind * rows_in rows.now) × Chained (table_in rows.now) (first_of kind) (each_of kind) head.now next.now }
+    ensures { (result.count ≡ count (each_of kind * rows_in rows.now) (like (table_in rows.now) (first_of kind) (each_of kind) place))
+        × (result.other ≡ highest (each_of kind * rows_in rows.now) (another (table_in rows.now) (first_of kind) (each_of kind) place)) }
 {
-    let end = m * row_count(rows);
-    let face = face_at(rows, corners, base, m, place);
+    let end = kind.each() * row_count(rows);
+    let face = kind.face_at(rows, place);
     let mut count = 0;
     let mut other = 0;
-    let mut q = first_place(head, key_of(face));
+    let mut q = head[face.key()] as usize;
     while q < end {
-        let hit = same_ids(face, face_at(rows, corners, base, m, q));
+        let hit = face == kind.face_at(rows, q);
         count += choose(hit, 1, 0);
         other = choose(hit & (q != place), q, other);
-        q = next_place(next, q);
+        q = next[q] as usize;
     }
     Like { count, other }
 }
@@ -99,23 +68,21 @@ pub(crate) fn like_places(
 // No place before this one has its ids.
 pub(crate) fn first_like(
     rows: &[u8],
-    corners: &[u8; 42],
-    base: usize,
-    m: usize,
+    kind: FaceKind,
     head: &[u16; 8192],
     next: &[u16; 12288],
     place: usize,
 ) -> bool
-    requires { Kind base m × (rows_in rows.now ≤ most_rows) × (place < m * rows_in rows.now) × Chained (table_in rows.now) base m head.now next.now × (corners.now ≡ face_corners) }
-    ensures { result ≡ not (any place (like (table_in rows.now) base m place)) }
+    requires { (rows_in rows.now ≤ most_rows) × (place < each_of kind * rows_in rows.now) × Chained (table_in rows.now) (first_of kind) (each_of kind) head.now next.now }
+    ensures { result ≡ not (any place (like (table_in rows.now) (first_of kind) (each_of kind) place)) }
 {
-    let face = face_at(rows, corners, base, m, place);
-    let mut q = first_place(head, key_of(face));
+    let face = kind.face_at(rows, place);
+    let mut q = head[face.key()] as usize;
     while q < place {
-        if same_ids(face, face_at(rows, corners, base, m, q)) {
+        if face == kind.face_at(rows, q) {
             return false;
         }
-        q = next_place(next, q);
+        q = next[q] as usize;
     }
     true
 }

@@ -8,7 +8,7 @@ ghost use Rattle.table.specs.Holders.{both_joined, FloodingRows, Spreading};
 
 use crate::{across_at, id_at};
 use floods::visit;
-use values::{choose, from_u16};
+use values::choose;
 
 // One leaves row x through a corner whose id is neither a nor b.
 fn leaves(rows: &[u8], a: usize, b: usize, x: usize, corner: usize) -> bool
@@ -59,7 +59,7 @@ fn spread(
     requires { Grounded rows.now neighbours.now × (start < rows_in rows.now) × (i < tail) × FloodingRows rows.now a b start k stamp.old queue.old (4 * i) tail }
     ensures { FloodingRows rows.now a b start k stamp.new queue.new (4 * (i + 1)) result }
 {
-    let x = from_u16(queue[i]);
+    let x = queue[i] as usize;
     let first = leave_by(
         rows, neighbours, a, b, start, k, stamp, queue, i, x, 0, tail,
     );

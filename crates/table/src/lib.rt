@@ -19,17 +19,14 @@ ghost use Rattle.table.specs.Ground.{Grounded};
 ghost use Rattle.table.specs.Closed.{verdict_of, joined_tests, shared_tests, left_of};
 
 use across::neighbours;
-use faces::{EDGES, EDGES_AT, VERTICES, VERTICES_AT};
+use faces::FaceKind;
 use joined::broken_face;
 use rows::{bad_row, out_of_order};
-use values::{Found, from_u32};
 use view::{id_in, view_of};
 
-// The first rule that the table breaks, with the lowest row that breaks it.
+// The first rule that the table breaks, with the lowest row that breaks it. Of a closed table there is none.
 #[derive(Clone, Copy)]
 pub enum Broken {
-    // The table is closed.
-    Nothing,
     // Ids that do not rise, or are not below V.
     Row(usize),
     // A row that is not after the one before it.
@@ -70,18 +67,14 @@ pub fn across_at(neighbours: &[u32], row: usize, corner: usize) -> usize
     requires { 4 * row + corner < length neighbours.now }
     ensures { result ≡ get_or neighbours.now (4 * row + corner) 0 }
 {
-    from_u32(neighbours[4 * row + corner])
+    neighbours[4 * row + corner] as usize
 }
 
 // Leaves zero in every word.
 pub fn clear(work: &mut [u32])
     ensures { work.new ≡ replicate (length work.old) 0 }
 {
-    let mut i = 0;
-    while i < work.len() {
-        work[i] = 0;
-        i += 1;
-    }
+    work.fill(0);
 }
 
 // Codes 8 and 9.
@@ -90,60 +83,50 @@ fn check_joined(
     head: &mut [u16; 8192],
     next: &mut [u16; 12288],
     work: &mut [u32],
-) -> Broken
+) -> Result<(), Broken>
     requires { Grounded rows.now work.old × Room next.old }
     ensures { (verdict_of result ≡ first_match 8 (joined_tests (table_in rows.now)))
         × (work.new ≡ left_of result work.old) }
 {
-    match broken_face(rows, work, EDGES_AT, EDGES, head, next) {
-        Found::At(row) => {
-            clear(work);
-            Broken::Edge(row)
-        }
-        Found::Nowhere => match broken_face(rows, work, VERTICES_AT, VERTICES, head, next) {
-            Found::At(row) => {
-                clear(work);
-                Broken::Vertex(row)
-            }
-            Found::Nowhere => Broken::Nothing,
-        },
+    if let Some(row) = broken_face(rows, work, FaceKind::Edges, head, next) {
+        clear(work);
+        return Err(Broken::Edge(row));
     }
+    if let Some(row) = broken_face(rows, work, FaceKind::Vertices, head, next) {
+        clear(work);
+        return Err(Broken::Vertex(row));
+    }
+    Ok(())
 }
 
 // Codes 7 to 9. One area on the stack serves the chains of triangles, then of edges, then of vertices.
-fn check_shared(rows: &[u8], work: &mut [u32]) -> Broken
+fn check_shared(rows: &[u8], work: &mut [u32]) -> Result<(), Broken>
     requires { ((ids : ℕ) × OrderedRows rows.now ids) × (4 * rows_in rows.now ≤ length work.old) }
     ensures { (verdict_of result ≡ first_match 7 (shared_tests (table_in rows.now)))
         × (work.new ≡ left_of result (written (neighbour_list (table_in rows.now)) work.old)) }
 {
     let mut head = [0u16; 8192];
     let mut next = [0u16; 12288];
-    match neighbours(rows, &mut head, &mut next, work) {
-        Found::At(row) => {
-            clear(work);
-            Broken::Triangle(row)
-        }
-        Found::Nowhere => check_joined(rows, &mut head, &mut next, work),
+    if let Some(row) = neighbours(rows, &mut head, &mut next, work) {
+        clear(work);
+        return Err(Broken::Triangle(row));
     }
+    check_joined(rows, &mut head, &mut next, work)
 }
 
 // The first of the refusals 5 to 9. A closed table leaves its neighbour list at the front of `work`, a refusal leaves it all zero.
-pub fn check(rows: &[u8], ids: usize, work: &mut [u32]) -> Broken
+pub fn check(rows: &[u8], ids: usize, work: &mut [u32]) -> Result<(), Broken>
     requires { (rows_in rows.now ≤ most_rows) × (4 * rows_in rows.now ≤ length work.old) }
     ensures { (verdict_of result ≡ first_match 5 (table_tests (table_in rows.now) ids))
         × (work.new ≡ left_of result (written (neighbour_list (table_in rows.now)) work.old)) }
 {
-    match bad_row(rows, ids) {
-        Found::At(row) => {
-            clear(work);
-            Broken::Row(row)
-        }
-        Found::Nowhere => match out_of_order(rows) {
-            Found::At(row) => {
-                clear(work);
-                Broken::Order(row)
-            }
-            Found::Nowhere => check_shared(rows, work),
-        },
+    if let Some(row) = bad_row(rows, ids) {
+        clear(work);
+        return Err(Broken::Row(row));
     }
+    if let Some(row) = out_of_order(rows) {
+        clear(work);
+        return Err(Broken::Order(row));
+    }
+    check_shared(rows, work)
 }

@@ -3,11 +3,10 @@ ghost use Rattle.std.specs.Prelude.{◌≡◌, ◌&&◌, ◌||◌, ◌<◌, eqb,
 ghost use Rattle.rules.specs.Below.{lowest};
 ghost use Rattle.rules.specs.Table.{rising, ids_below, before};
 ghost use Rattle.table.specs.Rows.{table_in, rows_in};
-ghost use Rattle.values.specs.Search.{place_of};
+ghost use Rattle.values.specs.Places.{place_of};
 ghost use Rattle.rules.specs.Job.{bad_row, not_after};
 
 use crate::{id_at, row_count};
-use values::Found;
 
 // Four ids rise and are below `ids`.
 fn four_rise(a: usize, b: usize, c: usize, d: usize, ids: usize) -> bool
@@ -30,18 +29,10 @@ fn is_row(rows: &[u8], ids: usize, row: usize) -> bool
 }
 
 // The first row whose ids do not rise, or that has an id not below `ids`.
-pub(crate) fn bad_row(rows: &[u8], ids: usize) -> Found
+pub(crate) fn bad_row(rows: &[u8], ids: usize) -> Option<usize>
     ensures { place_of result ≡ lowest (rows_in rows.now) (bad_row (table_in rows.now) ids) }
 {
-    let n = row_count(rows);
-    let mut row = 0;
-    while row < n {
-        if !is_row(rows, ids, row) {
-            return Found::At(row);
-        }
-        row += 1;
-    }
-    Found::Nowhere
+    (0..row_count(rows)).find(|&row| !is_row(rows, ids, row))
 }
 
 // Four ids stand before four others in the dictionary.
@@ -80,16 +71,8 @@ fn row_before(rows: &[u8], s: usize, r: usize) -> bool
 }
 
 // The first row that is not after the one before it.
-pub(crate) fn out_of_order(rows: &[u8]) -> Found
+pub(crate) fn out_of_order(rows: &[u8]) -> Option<usize>
     ensures { place_of result ≡ lowest (rows_in rows.now) (not_after (table_in rows.now)) }
 {
-    let n = row_count(rows);
-    let mut row = 1;
-    while row < n {
-        if !row_before(rows, row - 1, row) {
-            return Found::At(row);
-        }
-        row += 1;
-    }
-    Found::Nowhere
+    (1..row_count(rows)).find(|&row| !row_before(rows, row - 1, row))
 }

@@ -1,10 +1,11 @@
 use Rattle.std.proofs.Common.{◌*◌, ◌-◌}
 use Rattle.table.specs.Rows.{table_in, rows_in}
 use Rattle.table.specs.Walk.{Walked}
+use Rattle.table.specs.Faces.{first_of, each_of}
 use Rattle.table.proofs.chains.like_places.Given as goal
 
 abbrev pub invariant-loop-q : goal.invariant-loop-q
-invariant-loop-q l = Walked (table_in l.rows) l.base l.m l.place l.q l.count l.other
+invariant-loop-q l = Walked (table_in l.rows) (first_of l.kind) (each_of l.kind) l.place l.q l.count l.other
 
 abbrev pub decreases-loop-q : goal.decreases-loop-q
-decreases-loop-q l = l.m * rows_in l.rows - l.q
+decreases-loop-q l = each_of l.kind * rows_in l.rows - l.q

@@ -1,6 +1,6 @@
-use Rattle.std.proofs.Common.{◌/◌, ◌∙◌, arith}
+use Rattle.std.proofs.Common.{arith}
 use Rattle.rules.specs.Laws.Places.{row_below}
-use Rattle.table.specs.Faces.{kind_small, four_or_six}
+use Rattle.table.specs.Faces.{kind_small}
 use Rattle.table.specs.Ground.{rising_rows}
 use Rattle.table.specs.Holders.{joined_before, own_both, joined_found}
 use Rattle.table.proofs.joined.face_joined.Goals as goal
@@ -11,7 +11,7 @@ returns-then-not-first_like c =
 
 pub flood-reached-requires : goal.flood-reached-requires
 flood-reached-requires c =
-    (c.requires.0, rw (c.row_of.ensures ∙ four_or_six c.requires.1.0 (λ n. c.args.place / n)) (row_below (kind_small c.requires.1.0).0 _ _ c.requires.4), rw (c.row_of.ensures ∙ four_or_six c.requires.1.0 (λ n. c.args.place / n)) (own_both _ c.requires.1 _ c.face_at-face.ensures), c.requires.3.stamps, c.requires.3.places, λ y l. omega (arith, c.requires.3.low y l))
+    (c.requires.0, rw (c.row_of.ensures) (row_below (kind_small c.requires.1.0).0 _ _ c.requires.4), rw (c.row_of.ensures) (own_both _ c.requires.1 _ c.face_at-face.ensures), c.requires.3.stamps, c.requires.3.places, λ y l. omega (arith, c.requires.3.low y l))
 
 pub returns : goal.returns
 returns c =

@@ -1,6 +1,6 @@
 use Rattle.std.proofs.Common.{refl}
 use Rattle.table.specs.Faces.{key_of}
-use Rattle.table.proofs.faces.key_of.Goals as goal
+use Rattle.table.proofs.faces.Face.key.Goals as goal
 
 pub returns : goal.returns
 unfolding key_of
