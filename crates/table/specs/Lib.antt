@@ -6,6 +6,7 @@
 --     Walk       a walk along the chain of a place
 --     Triangles  the triangle rule and the row across, by like places
 --     Ground     what the neighbour list means; all that anything above may know of it
+--     Tested     the same by tests, which a value can carry
 --     Holders    the rows that hold an edge or a vertex, joined or not by a flood
 --     Closed     codes 5 to 9, first match decides
 pub mod Rows
@@ -15,5 +16,6 @@ pub mod Places
 pub mod Walk
 pub mod Triangles
 pub mod Ground
+pub mod Tested
 pub mod Holders
 pub mod Closed

@@ -2,7 +2,9 @@
 #![tactic(auto)]
 
 mod across;
+mod asked;
 mod chains;
+pub mod checked;
 pub mod faces;
 mod flood;
 mod joined;
