@@ -7,7 +7,7 @@ use mathlib.Core.List.{List, [], ◌∷◌, map, flatten}
 use Rattle.std.proofs.Math.Option.{some, none}
 use Rattle.std.proofs.Math.Nat.{mod-lt}
 use native.Mathlib.Omega.{arith}
-use Rattle.std.proofs.lemmas.List.{length-replicate, get_or-replicate}
+use Rattle.std.proofs.lemmas.List.{get_or-replicate}
 use Rattle.std.proofs.lemmas.Bool.{not-true, not-false}
 use Rattle.rules.specs.Below.{lowest, any, all, gather, tabulate, count, pick}
 use Rattle.rules.specs.Joined.{connected}
@@ -50,18 +50,12 @@ unjoined t base m r = not (all_joined t base m r)
 abbrev pub Joint : ℕ → ℕ → Type 0
 Joint base m = Kind base m × (4 ≤ base)
 
--- stamps and a queue between two floods: the stamps are at most k
-pub record Scratch (n k : ℕ) (stamp queue : List ℕ) : Type 0 where
-  pub stamps : length stamp ≡ most_rows
-  pub places : length queue ≡ most_rows
-  pub low : (y : ℕ) → y < n → get_or stamp y 0 ≤ k
+-- between two floods: the stamps are at most k
+abbrev pub Scratch : ℕ → ℕ → List ℕ → Type 0
+Scratch n k stamp = (y : ℕ) → y < n → get_or stamp y 0 ≤ k
 
-pub zero_scratch : (n : ℕ) → n ≤ most_rows → Scratch n 0 (replicate most_rows 0) (replicate most_rows 0)
-zero_scratch n few = record {
-  stamps = length-replicate {A = ℕ} most_rows 0;
-  places = length-replicate {A = ℕ} most_rows 0;
-  low = λ y l. rw (get_or-replicate {A = ℕ} most_rows y 0 0 (omega arith)) (omega arith);
-}
+pub zero_scratch : (n : ℕ) → n ≤ most_rows → Scratch n 0 (replicate most_rows 0)
+zero_scratch n few y l = rw (get_or-replicate {A = ℕ} most_rows y 0 0 (omega arith)) (omega arith)
 
 -- ---- edge rule and vertex rule by faces
 
@@ -127,8 +121,8 @@ module _ {bytes work : List ℕ} {ids : ℕ} (ground : Ground bytes work ids) (a
     few_reached = omega (arith, ground.few, f.counted, count_not (rows_in bytes) (stamped k stamp))
 
     pub rows_end : start < rows_in bytes → both (table_in bytes) a b start ≡ true → 4 * tail ≤ i → (eqb tail (count (rows_in bytes) (both (table_in bytes) a b)) ≡ both_joined (table_in bytes) a b)
-        × (length stamp ≡ most_rows) × (length queue ≡ most_rows) × ((y : ℕ) → y < rows_in bytes → get_or stamp y 0 ≤ k)
-    rows_end ls held l = (rows_joined ground.paired refl a b k start stamp tail (ls, held) (flood_ends four_ways (rows_in bytes) k start (leaves (table_in bytes) a b) (across (table_in bytes)) (Joining (table_in bytes) a b start) f l), f.stamps, f.places, f.low)
+        × ((y : ℕ) → y < rows_in bytes → get_or stamp y 0 ≤ k)
+    rows_end ls held l = (rows_joined ground.paired refl a b k start stamp tail (ls, held) (flood_ends four_ways (rows_in bytes) k start (leaves (table_in bytes) a b) (across (table_in bytes)) (Joining (table_in bytes) a b start) f l), f.low)
 
 -- row x stands at place i of the queue, and the corners below `corner` are done
 pub record Spreading (bytes : List ℕ) (a b start k i x corner : ℕ) (stamp queue : List ℕ) (tail : ℕ) : Type 0 where
@@ -155,10 +149,7 @@ module _ {bytes work : List ℕ} {ids : ℕ} (ground : Ground bytes work ids) (a
   pub reached_below : x < rows_in bytes
   reached_below = rw s.at (s.flood.inside i s.waits).0
 
-  module _ {y : ℕ} (ey : y ≡ get_or work (4 * x + corner) 0) where
-    is_across : y ≡ across (table_in bytes) x corner
-    is_across = ey ∙ ground.at x corner reached_below lc
-
+  module _ {y : ℕ} (is_across : y ≡ across (table_in bytes) x corner) where
     across_near : y < rows_in bytes
     across_near = rw is_across (across_below ground.paired x corner reached_below lc)
 

@@ -1,5 +1,5 @@
 -- What the tests have shown of a table, by equations and bounds, so that a value of the code can carry it.
-use Rattle.std.specs.Prelude.{◌≡◌, Bool, not, ◌&&◌, List, ℕ, zero, suc, ◌+◌, ◌-◌, ◌*◌, ◌≤◌, ◌<◌, length, get_or}
+use Rattle.std.specs.Prelude.{◌≡◌, Bool, not, List, ℕ, zero, suc, ◌+◌, ◌-◌, ◌*◌, ◌≤◌, ◌<◌, length, get_or}
 use Rattle.std.proofs.Common.{ap, ⊎_elim, lt_trans, not-suc-le-zero, le_of_suc-le-suc, eq-or-lt_of_le, ltb-true, lt-ltb, arith}
 use Rattle.std.proofs.Math.Dec.{ltb}
 use Rattle.std.proofs.Math.Option.{none}
@@ -10,7 +10,7 @@ use Rattle.rules.specs.Job.{most_rows, not_after}
 use Rattle.rules.specs.Laws.Below.{lowest_none, none_lowest}
 use Rattle.rules.specs.Laws.Truth.{is_true, is_false, not_both, and_first, and_second, and_both}
 use Rattle.rules.specs.Reading.Rows.{rising_reads, ids_below_reads, before_reads}
-use Rattle.rules.specs.Reading.Closed.{Paired, triangles_read}
+use Rattle.rules.specs.Reading.Closed.{triangles_read}
 use Rattle.rules.specs.Reading.Codes.{each_row}
 use Rattle.table.specs.Rows.{rows_in, table_in}
 use Rattle.table.specs.Ground.{Ground, Grounded}
@@ -55,7 +55,7 @@ tested_of {bytes} {neighbours} {ids} g =
         g.few,
         none_lowest t.rows (λ r. not (rising t r)) (λ r l. ap not ((rising_reads t r).1 (g.paired.rising r l))),
         none_lowest t.rows (not_after t) (λ r l. is_false (not_after t r) (λ e.
-        not_both ((before_reads t (r - 1) r).1 (g.paired.ordered r (ltb-true 0 r (and_first (ltb 0 r) (not (before t (r - 1) r)) e)) l)) (not-true (before t (r - 1) r) (and_second (ltb 0 r) (not (before t (r - 1) r)) e)))),
+            not_both ((before_reads t (r - 1) r).1 (g.paired.ordered r (ltb-true 0 r (and_first (ltb 0 r) (not (before t (r - 1) r)) e)) l)) (not-true (before t (r - 1) r) (and_second (ltb 0 r) (not (before t (r - 1) r)) e)))),
         none_lowest t.rows (λ r. not (triangles_shared t r)) (λ r l. ap not ((triangles_read t r).1 (g.paired.two r l))),
         g.room,
         g.at,

@@ -17,14 +17,15 @@ ghost use Rattle.rules.specs.Job.{written, table_tests, most_rows};
 ghost use Rattle.rules.specs.Table.{holds, neighbour_list};
 ghost use Rattle.table.specs.Rows.{rows_in, id_in, table_in, OrderedRows};
 ghost use Rattle.table.specs.Places.{Room};
-ghost use Rattle.table.specs.Ground.{Grounded};
+ghost use Rattle.table.specs.Tested.{Tested};
 ghost use Rattle.table.specs.Closed.{verdict_of, joined_tests, shared_tests, left_of};
 
 use across::neighbours;
+use checked::Table;
 use faces::FaceKind;
 use joined::broken_face;
 use rows::{bad_row, out_of_order};
-use view::{id_in, view_of};
+use view::RowView;
 
 // The first rule that the table breaks, with the lowest row that breaks it. Of a closed table there is none.
 #[derive(Clone, Copy)]
@@ -43,7 +44,7 @@ pub fn id_at(rows: &[u8], row: usize, corner: usize) -> usize
     requires { (row < rows_in rows.now) × (corner < 4) }
     ensures { result ≡ id_in rows.now row corner }
 {
-    id_in(view_of(rows), row, corner)
+    RowView::of(rows).id(row, corner)
 }
 
 // How many rows a section has. Only this function and `id_at` know how wide a row is.
@@ -86,15 +87,23 @@ fn check_joined(
     next: &mut [u16; 12288],
     work: &mut [u32],
 ) -> Result<(), Broken>
-    requires { Grounded rows.now work.old × Room next.old }
+    requires { Tested rows.now work.old × Room next.old }
     ensures { (verdict_of result ≡ first_match 8 (joined_tests (table_in rows.now)))
         × (work.new ≡ left_of result work.old) }
 {
-    if let Some(row) = broken_face(rows, work, FaceKind::Edges, head, next) {
+    let table = Table {
+        rows,
+        neighbours: work,
+    };
+    if let Some(row) = broken_face(table, FaceKind::Edges, head, next) {
         clear(work);
         return Err(Broken::Edge(row));
     }
-    if let Some(row) = broken_face(rows, work, FaceKind::Vertices, head, next) {
+    let table = Table {
+        rows,
+        neighbours: work,
+    };
+    if let Some(row) = broken_face(table, FaceKind::Vertices, head, next) {
         clear(work);
         return Err(Broken::Vertex(row));
     }

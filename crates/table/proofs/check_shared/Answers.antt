@@ -2,6 +2,7 @@ use Rattle.std.proofs.Common.{replicate, ℕ, sym, ap, ◌∙◌}
 use Rattle.std.proofs.lemmas.List.{length-replicate}
 use Rattle.table.specs.Closed.{left_of, triangle_broken, triangle_fine, the_ground, zeros_left}
 use Rattle.table.specs.Rows.{ordered_rise}
+use Rattle.table.specs.Tested.{tested_of}
 use Rattle.values.specs.Places.{none_of}
 use Rattle.table.proofs.check_shared.Goals as goal
 
@@ -11,7 +12,7 @@ neighbours-requires c = let given = c.requires in (ordered_rise given.0.1, given
 pub check_joined-requires : goal.check_joined-requires
 check_joined-requires c =
     let given = c.requires in
-    ((_, the_ground _ _ c.neighbours.ensures.0 (none_of c.in_default.not-Some) given.0.1 given.1 c.neighbours.ensures.1), c.neighbours.ensures.2)
+    ((tested_of (the_ground _ _ c.neighbours.ensures.0 (none_of c.in_default.not-Some) given.0.1 given.1 c.neighbours.ensures.1)).0, c.neighbours.ensures.2)
 
 pub returns-in-Some : goal.returns-in-Some
 unfolding left_of

@@ -7,4 +7,4 @@ use Rattle.table.specs.Faces.{first_of, each_of}
 use Rattle.table.proofs.joined.broken_by.Given as goal
 
 abbrev pub invariant-loop-place : goal.invariant-loop-place
-invariant-loop-place l = (lowest l.place (unjoined_at (table_in l.rows) (first_of l.kind) (each_of l.kind)) ≡ none) × Scratch (rows_in l.rows) l.place l.stamp l.queue
+invariant-loop-place l = (lowest l.place (unjoined_at (table_in l.table.rows.now) (first_of l.kind) (each_of l.kind)) ≡ none) × Scratch (rows_in l.table.rows.now) l.place l.flood.stamp

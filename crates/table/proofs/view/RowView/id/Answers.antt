@@ -1,6 +1,6 @@
 use Rattle.std.proofs.Common.{sym, ◌∙◌, rules}
 use Rattle.table.specs.Rows.{rows_in, id_word}
-use Rattle.table.proofs.view.id_in_bytes.Goals as goal
+use Rattle.table.proofs.view.RowView.id.Goals as goal
 
 pub overflow_mul-row : goal.overflow_mul-row
 unfolding rows_in
@@ -15,4 +15,4 @@ unfolding rows_in
 word_at-requires c = search rules
 
 pub returns : goal.returns
-returns c = c.word_at.ensures ∙ sym (id_word c.args.rows.now c.args.row c.args.corner (search rules) (search rules))
+returns c = c.word_at.ensures ∙ sym (id_word c.args.self.bytes.now c.args.row c.args.corner (search rules) (search rules))
