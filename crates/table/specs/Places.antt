@@ -1,5 +1,5 @@
 -- Places: the faces of one kind, m to a row. Place p is the face p % m of row p / m.
-use Rattle.std.specs.Prelude.{◌≡◌, refl, Bool, true, not, ◌≢◌, List, ℕ, ◌+◌, ◌*◌, ◌/◌, ◌%◌, ◌≤◌, ◌<◌, length}
+use Rattle.std.specs.Prelude.{◌≡◌, refl, Bool, true, not, ◌≢◌, List, ℕ, ◌+◌, ◌*◌, ◌/◌, ◌%◌, ◌≤◌, ◌<◌}
 use Rattle.std.proofs.Math.Path.{sym, ap}
 use Rattle.std.proofs.Common.{◌∙◌, inl, inr, zero-add, mod-lt, lt_trans, mul-le-mul, arith}
 use Rattle.std.proofs.Math.Option.{some, none}
@@ -36,10 +36,6 @@ like_key t base m p q e = ap key_of (sym (same_ids_lem (face_at t base m p) (fac
 -- the places of a kind, threaded by their keys
 abbrev pub Chained : Table → ℕ → ℕ → List ℕ → List ℕ → Type 0
 Chained t base m head next = Threaded (λ p. key_of (face_at t base m p)) (m * t.rows) 0 head next
-
--- room for the place after each
-abbrev pub Room : List ℕ → Type 0
-Room next = length next ≡ 12288
 
 pub places_fit : {base m n : ℕ} → Kind base m → n ≤ most_rows → m * n ≤ 12288
 places_fit kind l = mul-le-mul (kind_small kind).1 l

@@ -4,10 +4,10 @@ ghost use Rattle.rules.specs.Below.{lowest};
 ghost use Rattle.values.specs.Places.{place_of};
 ghost use Rattle.table.specs.Rows.{rows_in, table_in, RisingRows};
 ghost use Rattle.table.specs.Faces.{triangles_at, triangles_each};
-ghost use Rattle.table.specs.Places.{Chained, Room};
+ghost use Rattle.table.specs.Places.{Chained};
 ghost use Rattle.table.specs.Triangles.{unshared, Written};
 
-use crate::chains::{like_places, thread};
+use crate::chains::Chains;
 use crate::faces::FaceKind;
 use crate::row_count;
 
@@ -20,18 +20,13 @@ fn put(work: &mut [u32], place: usize, row: usize)
 }
 
 // The first row with a triangle that is not in exactly two rows; without one, the neighbour list is written.
-fn neighbours_by(
-    rows: &[u8],
-    head: &[u16; 8192],
-    next: &[u16; 12288],
-    work: &mut [u32],
-) -> Option<usize>
-    requires { RisingRows rows.now × Chained (table_in rows.now) triangles_at triangles_each head.now next.now × (4 * rows_in rows.now ≤ length work.old) }
+fn neighbours_by(rows: &[u8], chains: &Chains, work: &mut [u32]) -> Option<usize>
+    requires { RisingRows rows.now × Chained (table_in rows.now) triangles_at triangles_each chains.now.head chains.now.next × (4 * rows_in rows.now ≤ length work.old) }
     ensures { (place_of result ≡ lowest (rows_in rows.now) (unshared (table_in rows.now)))
         × Written (table_in rows.now) result work.old work.new }
 {
     for place in 0..4 * row_count(rows) {
-        let found = like_places(rows, FaceKind::Triangles, head, next, place);
+        let found = chains.like_places(rows, FaceKind::Triangles, place);
         if found.count != 2 {
             return Some(place / 4);
         }
@@ -40,16 +35,11 @@ fn neighbours_by(
     None
 }
 
-pub(crate) fn neighbours(
-    rows: &[u8],
-    head: &mut [u16; 8192],
-    next: &mut [u16; 12288],
-    work: &mut [u32],
-) -> Option<usize>
-    requires { RisingRows rows.now × (4 * rows_in rows.now ≤ length work.old) × Room next.old }
+pub(crate) fn neighbours(rows: &[u8], chains: &mut Chains, work: &mut [u32]) -> Option<usize>
+    requires { RisingRows rows.now × (4 * rows_in rows.now ≤ length work.old) }
     ensures { (place_of result ≡ lowest (rows_in rows.now) (unshared (table_in rows.now)))
-        × Written (table_in rows.now) result work.old work.new × Room next.new }
+        × Written (table_in rows.now) result work.old work.new }
 {
-    thread(rows, FaceKind::Triangles, head, next);
-    neighbours_by(rows, head, next, work)
+    chains.thread(rows, FaceKind::Triangles);
+    neighbours_by(rows, chains, work)
 }

@@ -16,11 +16,11 @@ ghost use Rattle.rules.specs.First.{first_match};
 ghost use Rattle.rules.specs.Job.{written, table_tests, most_rows};
 ghost use Rattle.rules.specs.Table.{holds, neighbour_list};
 ghost use Rattle.table.specs.Rows.{rows_in, id_in, table_in, OrderedRows};
-ghost use Rattle.table.specs.Places.{Room};
 ghost use Rattle.table.specs.Tested.{Tested};
 ghost use Rattle.table.specs.Closed.{verdict_of, joined_tests, shared_tests, left_of};
 
 use across::neighbours;
+use chains::Chains;
 use checked::Table;
 use faces::FaceKind;
 use joined::broken_face;
@@ -81,13 +81,8 @@ pub fn clear(work: &mut [u32])
 }
 
 // Codes 8 and 9.
-fn check_joined(
-    rows: &[u8],
-    head: &mut [u16; 8192],
-    next: &mut [u16; 12288],
-    work: &mut [u32],
-) -> Result<(), Broken>
-    requires { Tested rows.now work.old × Room next.old }
+fn check_joined(rows: &[u8], chains: &mut Chains, work: &mut [u32]) -> Result<(), Broken>
+    requires { Tested rows.now work.old }
     ensures { (verdict_of result ≡ first_match 8 (joined_tests (table_in rows.now)))
         × (work.new ≡ left_of result work.old) }
 {
@@ -95,7 +90,7 @@ fn check_joined(
         rows,
         neighbours: work,
     };
-    if let Some(row) = broken_face(table, FaceKind::Edges, head, next) {
+    if let Some(row) = broken_face(table, FaceKind::Edges, chains) {
         clear(work);
         return Err(Broken::Edge(row));
     }
@@ -103,7 +98,7 @@ fn check_joined(
         rows,
         neighbours: work,
     };
-    if let Some(row) = broken_face(table, FaceKind::Vertices, head, next) {
+    if let Some(row) = broken_face(table, FaceKind::Vertices, chains) {
         clear(work);
         return Err(Broken::Vertex(row));
     }
@@ -116,13 +111,12 @@ fn check_shared(rows: &[u8], work: &mut [u32]) -> Result<(), Broken>
     ensures { (verdict_of result ≡ first_match 7 (shared_tests (table_in rows.now)))
         × (work.new ≡ left_of result (written (neighbour_list (table_in rows.now)) work.old)) }
 {
-    let mut head = [0u16; 8192];
-    let mut next = [0u16; 12288];
-    if let Some(row) = neighbours(rows, &mut head, &mut next, work) {
+    let mut chains = Chains::new();
+    if let Some(row) = neighbours(rows, &mut chains, work) {
         clear(work);
         return Err(Broken::Triangle(row));
     }
-    check_joined(rows, &mut head, &mut next, work)
+    check_joined(rows, &mut chains, work)
 }
 
 // The first of the refusals 5 to 9. A closed table leaves its neighbour list at the front of `work`, a refusal leaves it all zero.

@@ -3,5 +3,4 @@ use Rattle.table.proofs.joined.broken_face.Goals as goal
 
 pub broken_by-requires : goal.broken_by-requires
 broken_by-requires c =
-    let given = c.requires in
-    (given.0, c.thread.ensures.0, rw c.new-flood.ensures.0 (zero_scratch _ c.args.table.tested.0))
+    (c.requires, c.thread.ensures, rw c.new-flood.ensures.0 (zero_scratch _ c.args.table.tested.0))

@@ -2,7 +2,7 @@ use Rattle.std.proofs.Common.{◌-◌}
 use Rattle.table.specs.Rows.{table_in}
 use Rattle.table.specs.Walk.{Missed}
 use Rattle.table.specs.Faces.{first_of, each_of}
-use Rattle.table.proofs.chains.first_like.Given as goal
+use Rattle.table.proofs.chains.Chains.first_like.Given as goal
 
 abbrev pub invariant-loop-q : goal.invariant-loop-q
 invariant-loop-q l = Missed (table_in l.rows) (first_of l.kind) (each_of l.kind) l.place l.q

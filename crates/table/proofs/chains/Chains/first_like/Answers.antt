@@ -3,13 +3,13 @@ use Rattle.table.specs.Faces.{key_below}
 use Rattle.table.specs.Walk.{miss_begins, miss_turn, miss_ends, hit_ends}
 use Rattle.table.specs.Faces.{equal_ids}
 use Rattle.std.proofs.Common.{refl}
-use Rattle.table.proofs.chains.first_like.Goals as goal
+use Rattle.table.proofs.chains.Chains.first_like.Goals as goal
 
-pub bounds-head-key : goal.bounds-head-key
-bounds-head-key c = rw c.key.ensures (key_below _)
+pub bounds-self-key : goal.bounds-self-key
+bounds-self-key c = rw c.key.ensures (key_below _)
 
-pub offset_bounds-head-key : goal.offset_bounds-head-key
-offset_bounds-head-key c = omega (arith, c.key.ensures, key_below c.face_at-face.result)
+pub offset_bounds-self-key : goal.offset_bounds-self-key
+offset_bounds-self-key c = omega (arith, c.key.ensures, key_below c.face_at-face.result)
 
 pub loop-q-init : goal.loop-q-init
 loop-q-init c = rw (c.key.ensures, c.face_at-face.ensures) (miss_begins _ _ _ _ c.requires.2)

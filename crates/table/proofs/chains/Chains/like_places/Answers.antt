@@ -6,13 +6,13 @@ use Rattle.table.specs.Places.{places_fit}
 use Rattle.table.specs.Walk.{walk_begins, walk_turn, walked_small}
 use Rattle.table.specs.Faces.{kind_of, equal_ids}
 use Rattle.std.proofs.Common.{refl}
-use Rattle.table.proofs.chains.like_places.Goals as goal
+use Rattle.table.proofs.chains.Chains.like_places.Goals as goal
 
-pub bounds-head-key : goal.bounds-head-key
-bounds-head-key c = rw c.key.ensures (key_below _)
+pub bounds-self-key : goal.bounds-self-key
+bounds-self-key c = rw c.key.ensures (key_below _)
 
-pub offset_bounds-head-key : goal.offset_bounds-head-key
-offset_bounds-head-key c = omega (arith, c.key.ensures, key_below c.face_at-face.result)
+pub offset_bounds-self-key : goal.offset_bounds-self-key
+offset_bounds-self-key c = omega (arith, c.key.ensures, key_below c.face_at-face.result)
 
 pub loop-q-init : goal.loop-q-init
 loop-q-init c = rw (c.key.ensures, c.face_at-face.ensures) (walk_begins _ _ _ _ c.requires.2)

@@ -2,7 +2,7 @@ use Rattle.std.proofs.Common.{◌*◌, ◌-◌}
 use Rattle.table.specs.Rows.{table_in, rows_in}
 use Rattle.table.specs.Walk.{Walked}
 use Rattle.table.specs.Faces.{first_of, each_of}
-use Rattle.table.proofs.chains.like_places.Given as goal
+use Rattle.table.proofs.chains.Chains.like_places.Given as goal
 
 abbrev pub invariant-loop-q : goal.invariant-loop-q
 invariant-loop-q l = Walked (table_in l.rows) (first_of l.kind) (each_of l.kind) l.place l.q l.count l.other
