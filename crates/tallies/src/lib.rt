@@ -15,7 +15,6 @@ ghost use Rattle.tallies.specs.Area.{Area};
 
 use skin::is_inside;
 use table::{clear, id_at, row_count};
-use values::from_u32;
 
 // One more, or one less.
 fn step(n: u32, up: bool) -> u32
@@ -37,10 +36,8 @@ fn step_row(rows: &[u8], first: usize, up: bool, row: usize, work: &mut [u32])
     requires { RowSteppable (table_in rows.now) first up row work.old × (row < rows_in rows.now) }
     ensures { work.new ≡ step_row (table_in rows.now) first up row 4 work.old }
 {
-    let mut corner = 0;
-    while corner < 4 {
+    for corner in 0..4 {
         step_at(first + id_at(rows, row, corner), up, work);
-        corner += 1;
     }
 }
 
@@ -78,11 +75,8 @@ pub fn count_rows(rows: &[u8], marks: &[u8], ids: usize, work: &mut [u32])
 {
     let first = tallies_at(rows);
     clear(&mut work[first..]);
-    let n = row_count(rows);
-    let mut row = 0;
-    while row < n {
+    for row in 0..row_count(rows) {
         count_row(rows, marks, ids, row, work);
-        row += 1;
     }
 }
 
@@ -93,18 +87,11 @@ pub fn others_at(rows: &[u8], work: &[u32], ids: usize, adding: bool, id: usize)
         → result ≡ tally (table_in rows.now) (other_side adding (inside_in marks)) id }
 {
     let first = tallies_at(rows);
-    let inside = from_u32(work[first + id]);
+    let inside = work[first + id] as usize;
     if adding {
         return inside;
     }
-    from_u32(work[first + ids + id]) - inside
-}
-
-// The mark of an inside row, or of an outside row.
-fn mark_of(inside: bool) -> u8
-    ensures { result ≡ bit inside }
-{
-    if inside { 1 } else { 0 }
+    work[first + ids + id] as usize - inside
 }
 
 // A row goes to the other side: its mark is set, and the tallies of its four ids go with it.
@@ -113,6 +100,6 @@ pub fn flip_row(rows: &[u8], row: usize, adding: bool, marks: &mut [u8], work: &
     ensures { (marks.new ≡ set marks.old row (bit adding))
         × ((ids : ℕ) → Area rows.now work.old marks.old ids → work.new ≡ work_area (table_in rows.now) ids marks.new) }
 {
-    marks[row] = mark_of(adding);
+    marks[row] = u8::from(adding);
     step_row(rows, tallies_at(rows), adding, row, work);
 }
