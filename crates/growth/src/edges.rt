@@ -7,11 +7,7 @@ ghost use Rattle.growth.specs.Edges.{edge_corner, opposite_edge, opposite_corner
 ghost use Rattle.growth.specs.Around.{Surrounded};
 
 use skin::is_between;
-use table::faces::{EDGES_AT, corner_of};
-use values::from_u8;
-
-// The edge opposite each, by position.
-const OPPOSITES: [u8; 6] = [5, 4, 3, 2, 1, 0];
+use table::faces::{EDGES, EDGES_AT, corner_of};
 
 pub(crate) fn edge_corner(corners: &[u8; 42], edge: usize, k: usize) -> usize
     requires { (edge < 6) × (k < 2) × (corners.now ≡ face_corners) }
@@ -20,11 +16,12 @@ pub(crate) fn edge_corner(corners: &[u8; 42], edge: usize, k: usize) -> usize
     corner_of(corners, EDGES_AT + edge, k)
 }
 
+// The edge opposite each, by position.
 fn opposite(edge: usize) -> usize
     requires { edge < 6 }
     ensures { result ≡ opposite_edge edge }
 {
-    from_u8(OPPOSITES[edge])
+    5 - edge
 }
 
 pub(crate) fn opposite_corner(corners: &[u8; 42], edge: usize, k: usize) -> usize
@@ -48,9 +45,7 @@ pub(crate) fn shared_edge(neighbours: &[u32], marks: &[u8], corners: &[u8; 42], 
     requires { Surrounded neighbours.now marks.now row × (count 4 (between neighbours.now marks.now row) ≡ 2) × (corners.now ≡ face_corners) }
     ensures { (result < 6) × (pick 4 (between neighbours.now marks.now row) ≡ opposite_corner result 0 ∷ opposite_corner result 1 ∷ []) }
 {
-    let mut edge = 0;
-    while !in_both(neighbours, marks, corners, row, edge) {
-        edge += 1;
-    }
-    edge
+    (0..EDGES)
+        .find(|&edge| in_both(neighbours, marks, corners, row, edge))
+        .unwrap()
 }

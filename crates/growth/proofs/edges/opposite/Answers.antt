@@ -1,6 +1,5 @@
-use Rattle.growth.specs.Edges.{opposite_edge}
+use Rattle.growth.specs.Edges.{opposite_by_position}
 use Rattle.growth.proofs.edges.opposite.Goals as goal
 
 pub returns : goal.returns
-unfolding opposite_edge
-returns c = c.from_u8.ensures
+returns c = opposite_by_position _ c.requires
