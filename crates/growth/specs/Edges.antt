@@ -24,18 +24,7 @@ opposite_corner e k = get_or (flatten opposite_table) (2 * e + k) 0
 
 -- the position of the edge opposite each
 unfoldable pub opposite_edge : ℕ → ℕ
-opposite_edge e = get_or (5 ∷ 4 ∷ 3 ∷ 2 ∷ 1 ∷ 0 ∷ []) e 0
-
-position_test : ℕ → Bool
-position_test e = eqb (5 - e) (opposite_edge e)
-
-position_passes : all 6 position_test ≡ true
-unfolding all position_test opposite_edge
-position_passes = refl
-
-pub opposite_by_position : (e : ℕ) → e < 6 → 5 - e ≡ opposite_edge e
-unfolding position_test
-opposite_by_position e l = eqb-true (5 - e) (opposite_edge e) (all_each 6 position_test position_passes e l)
+opposite_edge e = 5 - e
 
 -- No corner of the edge is left out by a skin triangle: the edge is in each of them. `p c` says that the triangle that leaves out c is on the skin.
 unfoldable pub in_both : (ℕ → Bool) → ℕ → Bool

@@ -15,7 +15,6 @@ use crate::declined::Declined;
 use crate::edges::{edge_corner, opposite_corner, shared_edge};
 use crate::free::{vertex_free, vertices_free};
 use skin::is_between;
-use table::faces::corner_table;
 use table::{across_at, id_at};
 use values::choose;
 
@@ -47,11 +46,10 @@ fn edge_free(rows: &[u8], neighbours: &[u32], marks: &[u8], adding: bool, row: u
     ensures { result ≡ free (table_in rows.now) (other_side adding (inside_in marks.now)) row
         (pick 4 (between neighbours.now marks.now row)) }
 {
-    let corners = corner_table();
-    let edge = shared_edge(neighbours, marks, &corners, row);
-    let a = id_at(rows, row, opposite_corner(&corners, edge, 0));
-    let b = id_at(rows, row, opposite_corner(&corners, edge, 1));
-    let last = across_at(neighbours, row, edge_corner(&corners, edge, 0));
+    let edge = shared_edge(neighbours, marks, row);
+    let a = id_at(rows, row, opposite_corner(edge, 0));
+    let b = id_at(rows, row, opposite_corner(edge, 1));
+    let last = across_at(neighbours, row, edge_corner(edge, 0));
     about_free(rows, neighbours, marks, adding, a, b, row, last)
 }
 

@@ -1,5 +1,7 @@
-use Rattle.growth.specs.Edges.{opposite_by_position}
+use Rattle.std.proofs.Common.{refl}
+use Rattle.growth.specs.Edges.{opposite_edge}
 use Rattle.growth.proofs.edges.opposite.Goals as goal
 
 pub returns : goal.returns
-returns c = opposite_by_position _ c.requires
+unfolding opposite_edge
+returns c = refl
