@@ -53,14 +53,14 @@ module _ (t : Table) (marks : List ℕ) (row kind : ℕ) where
       pub outer_row : infinite ≡ true → 3 ≡ answer t marks (proposal row kind)
       outer_row e = sym (answer_is t marks (proposal row kind) ∙ rw (lt-ltb row t.rows l, known, sym ei ∙ e))
 
-      module _ (finite : infinite ≡ false) {there : Bool} (et : there ≡ other_side (eqb kind 1) (inside_in marks) row) where
+      module _ (finite : infinite ≡ false) {adding : Bool} (ea : adding ≡ eqb kind 1) {there : Bool} (et : there ≡ other_side adding (inside_in marks) row) where
         pub there_already : there ≡ true → 4 ≡ answer t marks (proposal row kind)
         unfolding adds
-        there_already e = sym (answer_is t marks (proposal row kind) ∙ rw (lt-ltb row t.rows l, known, sym ei ∙ finite, sym et ∙ e))
+        there_already e = sym (answer_is t marks (proposal row kind) ∙ rw (lt-ltb row t.rows l, known, sym ei ∙ finite, ← ea, sym et ∙ e))
 
-        pub by_cases : there ≡ false → {given : ℕ} → given ≡ case_answer t (inside_in marks) (eqb kind 1) row → given ≡ answer t marks (proposal row kind)
+        pub by_cases : there ≡ false → {given : ℕ} → given ≡ case_answer t (inside_in marks) adding row → given ≡ answer t marks (proposal row kind)
         unfolding adds
-        by_cases here eg = eg ∙ sym (answer_is t marks (proposal row kind) ∙ rw (lt-ltb row t.rows l, known, sym ei ∙ finite, sym et ∙ here))
+        by_cases here eg = eg ∙ sym (answer_is t marks (proposal row kind) ∙ rw (lt-ltb row t.rows l, known, sym ei ∙ finite, ← ea, sym et ∙ here))
 
 -- ---- one proposal of a section
 
@@ -70,9 +70,9 @@ module _ (t : Table) (marks bytes : List ℕ) (k : ℕ) {row kind given : ℕ} (
   unfolding proposal_in
   given_is = eg ∙ rw (er, ek)
 
-  pub given_row : given ≡ 0 → (row < t.rows) × (other_side (eqb kind 1) (inside_in marks) row ≡ false)
+  pub given_row : given ≡ 0 → {adding : Bool} → adding ≡ eqb kind 1 → (row < t.rows) × (other_side adding (inside_in marks) row ≡ false)
   unfolding adds
-  given_row e = taken_row t marks (proposal row kind) (sym eg ∙ e)
+  given_row e ea = rw ea (taken_row t marks (proposal row kind) (sym eg ∙ e))
 
   -- taken: the row goes to the other side
   module _ (e : given ≡ 0) where
@@ -80,9 +80,9 @@ module _ (t : Table) (marks bytes : List ℕ) (k : ℕ) {row kind given : ℕ} (
     unfolding bit
     one_taken = rw (← given_is, e)
 
-    pub row_taken : {marks' : List ℕ} → marks' ≡ set marks row (bit (eqb kind 1)) → marks' ≡ marks_after t marks (proposal_in bytes k)
+    pub row_taken : {adding : Bool} → adding ≡ eqb kind 1 → {marks' : List ℕ} → marks' ≡ set marks row (bit adding) → marks' ≡ marks_after t marks (proposal_in bytes k)
     unfolding marks_after adds proposal_in
-    row_taken em = em ∙ rw (← given_is, e, er, ek)
+    row_taken ea em = em ∙ rw (ea, ← given_is, e, er, ek)
 
   -- refused: the marks stay
   module _ (ne : given ≢ 0) where

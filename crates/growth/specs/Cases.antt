@@ -15,15 +15,6 @@ use Rattle.table.specs.Ground.{Ground}
 use Rattle.skin.specs.Between.{between, between_skin}
 use Rattle.growth.specs.Free.{vertex_free}
 use Rattle.growth.specs.Around.{Counted, counted_one}
-use Rattle.growth.specs.declared.cases.Local.{Local}
-use Rattle.growth.specs.declared.cases.Local.TheVariants.{Passes, Vertices, Opposite, Edge}
-
--- document 02's answer
-abbrev pub answer_of : Local → ℕ
-answer_of Passes = 0
-answer_of Vertices = 5
-answer_of Opposite = 6
-answer_of Edge = 7
 
 module _ {rows neighbours : List ℕ} {ids : ℕ} (ground : Ground rows neighbours ids) (marks : List ℕ) (adding : Bool) (r : ℕ) (l : r < rows_in rows)
     {f last : ℕ} (c : Counted (between neighbours marks r) 4 f last) where

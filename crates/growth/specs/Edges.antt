@@ -1,16 +1,17 @@
 -- The edges of a row by position, and the edge that two skin triangles share.
-use Rattle.std.specs.Prelude.{◌≡◌, ◌↔◌, ◌≢◌, Bool, true, false, not, ◌&&◌, ◌||◌, eqb, ltb, get_or}
+use Rattle.std.specs.Prelude.{◌≡◌, ◌↔◌, ◌≢◌, Bool, true, false, not, ◌&&◌, ◌||◌, eqb, ltb, get_or, Option, Some, None, IsSome}
 use Rattle.std.proofs.Math.Path.{refl}
 use Rattle.std.proofs.Common.{sym, ap, ◌∙◌, arith, lit<, eqb-true, eq-eqb, ltb-true}
 use Rattle.std.proofs.Math.Logic.{⊎_elim}
-use mathlib.Core.List.{List, [], ◌∷◌, map, flatten}
-use Prim.Native.Nat.{ℕ, zero, suc, ◌+◌, ◌*◌, ◌<◌}
+use mathlib.Core.List.{List, [], ◌∷◌, flatten}
+use Prim.Native.Nat.{ℕ, zero, suc, ◌+◌, ◌-◌, ◌*◌, ◌<◌}
 use Rattle.std.proofs.lemmas.Bool.{not-true}
-use Rattle.rules.specs.Below.{any, all, bit, sum, count, gather, tabulate, only, pick}
+use Rattle.rules.specs.Below.{any, all, lowest, bit, sum, count, gather, tabulate, only, pick}
 use Rattle.rules.specs.Shape.{triangle_table, edge_table, opposite_table, vertices}
 use Rattle.table.specs.Faces.{edges_at, face_corners, corner_of}
-use Rattle.rules.specs.Laws.Truth.{not_both, and_first, and_second, or_either, or_neither, same_or_not, not_reads, and_reads, eqb_reads}
-use Rattle.rules.specs.Laws.Below.{any_more, any_same, all_each}
+use Rattle.values.specs.Places.{place_of}
+use Rattle.rules.specs.Laws.Truth.{not_both, and_first, and_second, or_either, not_reads, and_reads, eqb_reads}
+use Rattle.rules.specs.Laws.Below.{any_same, all_each, none_any, lowest_none, lowest_is}
 use Rattle.rules.specs.Laws.Count.{count_same}
 use Rattle.rules.specs.Laws.Lists.{pick_same}
 
@@ -23,7 +24,7 @@ opposite_corner e k = get_or (flatten opposite_table) (2 * e + k) 0
 
 -- the position of the edge opposite each
 unfoldable pub opposite_edge : ℕ → ℕ
-opposite_edge e = get_or (5 ∷ 4 ∷ 3 ∷ 2 ∷ 1 ∷ 0 ∷ []) e 0
+opposite_edge e = 5 - e
 
 -- No corner of the edge is left out by a skin triangle: the edge is in each of them. `p c` says that the triangle that leaves out c is on the skin.
 unfoldable pub in_both : (ℕ → Bool) → ℕ → Bool
@@ -55,7 +56,7 @@ read_test : ℕ → Bool
 read_test e = ltb (opposite_edge e) 6 && all 2 (λ k. eqb (corner_of (edges_at + e) k) (edge_corner e k) && eqb (edge_corner (opposite_edge e) k) (opposite_corner e k))
 
 read_passes : all 6 read_test ≡ true
-unfolding all read_test corner_of face_corners triangle_table edge_table vertices tabulate gather map opposite_edge edge_corner opposite_corner opposite_table flatten
+unfolding all read_test corner_of face_corners triangle_table edge_table vertices tabulate gather opposite_edge edge_corner opposite_corner opposite_table flatten
 read_passes = refl
 
 module _ (e : ℕ) (l : e < 6) where
@@ -178,9 +179,12 @@ module _ (p : ℕ → Bool) (two : count 4 p ≡ 2) where
       (or_either (not (in_both truths e)) (is_pair (opposite_corner e 0) (opposite_corner e 1) (pick 4 truths))
       (all_each 6 fits (and_second (any 6 (in_both truths)) (all 6 fits) tested) e l)))
 
-  -- where none so far is shared, there is one more to ask
-  pub unshared_more : (e : ℕ) → e < 6 → any e (in_both p) ≡ false → in_both p e ≡ false → (e + 1 < 6) × (any (e + 1) (in_both p) ≡ false)
-  unshared_more e l off here = (⊎_elim (λ (last : e + 1 ≡ 6). absurd (not_both some_shared (ap (λ (n : ℕ). any n (in_both p)) (sym last) ∙ none))) (λ more. omega arith) (same_or_not (e + 1) 6), none)
-    where
-      none : any (e + 1) (in_both p) ≡ false
-      none = rw any_more (or_neither off here)
+  -- a search finds one
+  pub shared_there : (place : Option ℕ) → place_of place ≡ lowest 6 (in_both p) → IsSome place
+  shared_there None e = absurd (not_both some_shared (none_any 6 (in_both p) (lowest_none 6 (in_both p) (sym e))))
+  shared_there (Some k) e = refl
+
+  pub shared_found : {place : Option ℕ} {k : ℕ} → place_of place ≡ lowest 6 (in_both p) → place ≡ Some k → (k < 6) × (pick 4 p ≡ opposite_corner k 0 ∷ opposite_corner k 1 ∷ [])
+  shared_found {place} {k} e is =
+      let found = lowest_is 6 (in_both p) k (sym e ∙ ap place_of is) in
+      (found.below, opposite_shared k found.below found.passes)

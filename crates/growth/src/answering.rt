@@ -1,50 +1,56 @@
 // The answer to one proposal, and the row that it names.
-ghost use Rattle.std.specs.Prelude.{◌≡◌, ◌/◌, ◌<◌, eqb, length, set};
+ghost use Rattle.std.specs.Prelude.{◌≡◌, ◌/◌, ◌<◌, ◌||◌, true, false, eqb, length, set, MatchResult, IfOk};
 ghost use Rattle.rules.specs.Below.{bit};
 ghost use Rattle.rules.specs.Proposals.{answer, marks_after};
 ghost use Rattle.rules.specs.Work.{work_area};
 ghost use Rattle.rules.specs.Job.{proposal_in};
 ghost use Rattle.table.specs.Rows.{table_in};
 ghost use Rattle.tallies.specs.Area.{Area};
-ghost use Rattle.growth.specs.Cases.{answer_of};
+ghost use Rattle.growth.specs.Declined.{answer_of};
 ghost use Rattle.growth.specs.Answers.{proposal};
 
-use crate::cases::{Local, local_test};
+use crate::cases::local_test;
+use crate::declined::{Declined, answer_of};
 use crate::free::on_other_side;
 use table::{holds, row_count};
 use tallies::flip_row;
 use words::word_at;
 
-// Document 02's answer of each case.
-fn answer_of(local: Local) -> u8
-    ensures { result ≡ answer_of local }
+// A proposal adds or removes, by its kind.
+fn adds(kind: usize) -> Result<bool, Declined>
+    ensures { MatchResult result (λ adding. ((eqb kind 1 || eqb kind 2) ≡ true) × (adding ≡ eqb kind 1)) (λ e. (e ≡ Declined.Kind) × ((eqb kind 1 || eqb kind 2) ≡ false)) }
 {
-    match local {
-        Local::Passes => 0,
-        Local::Vertices => 5,
-        Local::Opposite => 6,
-        Local::Edge => 7,
+    match kind {
+        1 => Ok(true),
+        2 => Ok(false),
+        _ => Err(Declined::Kind),
     }
 }
 
-// The first of the answers 1 to 7 that applies, or 0: taken.
-fn answer(rows: &[u8], work: &[u32], ids: usize, marks: &[u8], row: usize, kind: usize) -> u8
+// The first reason that applies, of answers 1 to 7, or taken: whether the row is added.
+fn answer(
+    rows: &[u8],
+    work: &[u32],
+    ids: usize,
+    marks: &[u8],
+    row: usize,
+    kind: usize,
+) -> Result<bool, Declined>
     requires { Area rows.now work.now marks.now ids }
-    ensures { result ≡ answer (table_in rows.now) marks.now (proposal row kind) }
+    ensures { (answer_of result ≡ answer (table_in rows.now) marks.now (proposal row kind)) × IfOk result (λ adding. adding ≡ eqb kind 1) }
 {
     if row >= row_count(rows) {
-        return 1;
+        return Err(Declined::Row);
     }
-    if !((kind == 1) | (kind == 2)) {
-        return 2;
-    }
+    let adding = adds(kind)?;
     if holds(rows, row, 0) {
-        return 3;
+        return Err(Declined::Outer);
     }
-    if on_other_side(marks, kind == 1, row) {
-        return 4;
+    if on_other_side(marks, adding, row) {
+        return Err(Declined::Side);
     }
-    answer_of(local_test(rows, work, ids, marks, kind == 1, row))
+    local_test(rows, work, ids, marks, adding, row)?;
+    Ok(adding)
 }
 
 // Answers proposal k on the marks then standing. If it is taken the row that it names goes to the other side, and the result is 1, else 0.
@@ -66,10 +72,12 @@ pub(crate) fn answer_one(
     let row = word_at(proposals, 8 * k) as usize;
     let kind = word_at(proposals, 8 * k + 4) as usize;
     let given = answer(rows, work, ids, marks, row, kind);
-    answers[k] = given;
-    if given != 0 {
-        return 0;
+    answers[k] = answer_of(given);
+    match given {
+        Ok(adding) => {
+            flip_row(rows, row, adding, marks, work);
+            1
+        }
+        Err(_) => 0,
     }
-    flip_row(rows, row, kind == 1, marks, work);
-    1
 }

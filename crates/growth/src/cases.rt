@@ -8,27 +8,15 @@ ghost use Rattle.table.specs.Ground.{ClosedGround};
 ghost use Rattle.skin.specs.Between.{between};
 ghost use Rattle.tallies.specs.Area.{Area};
 ghost use Rattle.growth.specs.Around.{Surrounded, Counted};
-ghost use Rattle.growth.specs.Cases.{answer_of};
+ghost use Rattle.growth.specs.Declined.{number_of, answer_of};
 
 use crate::about::about_free;
+use crate::declined::Declined;
 use crate::edges::{edge_corner, opposite_corner, shared_edge};
 use crate::free::{vertex_free, vertices_free};
 use skin::is_between;
-use table::faces::corner_table;
 use table::{across_at, id_at};
 use values::choose;
-
-// What the local test says of a row: it passes, or the case that refuses it, by what a row of the other side holds.
-#[derive(Clone, Copy)]
-pub(crate) enum Local {
-    Passes,
-    // f = 0: one of the vertices.
-    Vertices,
-    // f = 1: the vertex opposite the skin triangle.
-    Opposite,
-    // f = 2: the edge that is in neither skin triangle.
-    Edge,
-}
 
 // How many of a row's triangles are on the skin, and the left-out corner of the last of them.
 #[derive(Clone, Copy)]
@@ -43,12 +31,10 @@ fn left_out(neighbours: &[u32], marks: &[u8], row: usize) -> LeftOut
 {
     let mut count = 0;
     let mut last = 0;
-    let mut corner = 0;
-    while corner < 4 {
+    for corner in 0..4 {
         let hit = is_between(neighbours, marks, row, corner);
-        count += choose(hit, 1, 0);
+        count += usize::from(hit);
         last = choose(hit, corner, last);
-        corner += 1;
     }
     LeftOut { count, last }
 }
@@ -60,21 +46,21 @@ fn edge_free(rows: &[u8], neighbours: &[u32], marks: &[u8], adding: bool, row: u
     ensures { result ≡ free (table_in rows.now) (other_side adding (inside_in marks.now)) row
         (pick 4 (between neighbours.now marks.now row)) }
 {
-    let corners = corner_table();
-    let edge = shared_edge(neighbours, marks, &corners, row);
-    let a = id_at(rows, row, opposite_corner(&corners, edge, 0));
-    let b = id_at(rows, row, opposite_corner(&corners, edge, 1));
-    let last = across_at(neighbours, row, edge_corner(&corners, edge, 0));
+    let edge = shared_edge(neighbours, marks, row);
+    let a = id_at(rows, row, opposite_corner(edge, 0));
+    let b = id_at(rows, row, opposite_corner(edge, 1));
+    let last = across_at(neighbours, row, edge_corner(edge, 0));
     about_free(rows, neighbours, marks, adding, a, b, row, last)
 }
 
 // The row passes if what its case asks for is free.
-fn unless_free(free: bool, case: Local) -> Local
-    ensures { answer_of result ≡ cond free 0 (answer_of case) }
+fn unless_free(free: bool, case: Declined) -> Result<(), Declined>
+    ensures { answer_of result ≡ cond free 0 (number_of case) }
 {
-    if free { Local::Passes } else { case }
+    if free { Ok(()) } else { Err(case) }
 }
 
+// Whether the row passes the five cases, or what a row of the other side holds.
 pub(crate) fn local_test(
     rows: &[u8],
     work: &[u32],
@@ -82,19 +68,22 @@ pub(crate) fn local_test(
     marks: &[u8],
     adding: bool,
     row: usize,
-) -> Local
+) -> Result<(), Declined>
     requires { Area rows.now work.now marks.now ids × (row < rows_in rows.now) }
     ensures { answer_of result ≡ case_answer (table_in rows.now) (inside_in marks.now) adding row }
 {
     let skin = left_out(work, marks, row);
     let f = skin.count;
     match f {
-        0 => unless_free(vertices_free(rows, work, ids, adding, row), Local::Vertices),
+        0 => unless_free(
+            vertices_free(rows, work, ids, adding, row),
+            Declined::Vertices,
+        ),
         1 => unless_free(
             vertex_free(rows, work, ids, adding, row, skin.last),
-            Local::Opposite,
+            Declined::Opposite,
         ),
-        2 => unless_free(edge_free(rows, work, marks, adding, row), Local::Edge),
-        _ => Local::Passes,
+        2 => unless_free(edge_free(rows, work, marks, adding, row), Declined::Edge),
+        _ => Ok(()),
     }
 }

@@ -2,55 +2,49 @@
 ghost use Rattle.std.specs.Prelude.{◌≡◌, [], ◌∷◌, ◌<◌};
 ghost use Rattle.rules.specs.Below.{count, pick};
 ghost use Rattle.skin.specs.Between.{between};
-ghost use Rattle.table.specs.Faces.{face_corners};
 ghost use Rattle.growth.specs.Edges.{edge_corner, opposite_edge, opposite_corner, in_both};
 ghost use Rattle.growth.specs.Around.{Surrounded};
 
 use skin::is_between;
-use table::faces::{EDGES_AT, corner_of};
-use values::from_u8;
+use table::faces::{EDGES_AT, corner_at};
 
-// The edge opposite each, by position.
-const OPPOSITES: [u8; 6] = [5, 4, 3, 2, 1, 0];
-
-pub(crate) fn edge_corner(corners: &[u8; 42], edge: usize, k: usize) -> usize
-    requires { (edge < 6) × (k < 2) × (corners.now ≡ face_corners) }
+pub(crate) fn edge_corner(edge: usize, k: usize) -> usize
+    requires { (edge < 6) × (k < 2) }
     ensures { result ≡ edge_corner edge k }
 {
-    corner_of(corners, EDGES_AT + edge, k)
+    corner_at(EDGES_AT + edge, k)
 }
 
+// The edge opposite each, by position.
 fn opposite(edge: usize) -> usize
     requires { edge < 6 }
     ensures { result ≡ opposite_edge edge }
 {
-    from_u8(OPPOSITES[edge])
+    5 - edge
 }
 
-pub(crate) fn opposite_corner(corners: &[u8; 42], edge: usize, k: usize) -> usize
-    requires { (edge < 6) × (k < 2) × (corners.now ≡ face_corners) }
+pub(crate) fn opposite_corner(edge: usize, k: usize) -> usize
+    requires { (edge < 6) × (k < 2) }
     ensures { result ≡ opposite_corner edge k }
 {
-    edge_corner(corners, opposite(edge), k)
+    edge_corner(opposite(edge), k)
 }
 
 // An edge is in each skin triangle of the row: none leaves out one of its corners.
-fn in_both(neighbours: &[u32], marks: &[u8], corners: &[u8; 42], row: usize, edge: usize) -> bool
-    requires { Surrounded neighbours.now marks.now row × (edge < 6) × (corners.now ≡ face_corners) }
+fn in_both(neighbours: &[u32], marks: &[u8], row: usize, edge: usize) -> bool
+    requires { Surrounded neighbours.now marks.now row × (edge < 6) }
     ensures { result ≡ in_both (between neighbours.now marks.now row) edge }
 {
-    !(is_between(neighbours, marks, row, edge_corner(corners, edge, 0))
-        | is_between(neighbours, marks, row, edge_corner(corners, edge, 1)))
+    !(is_between(neighbours, marks, row, edge_corner(edge, 0))
+        | is_between(neighbours, marks, row, edge_corner(edge, 1)))
 }
 
 // The position of the edge that two skin triangles share. The edge opposite it is in neither.
-pub(crate) fn shared_edge(neighbours: &[u32], marks: &[u8], corners: &[u8; 42], row: usize) -> usize
-    requires { Surrounded neighbours.now marks.now row × (count 4 (between neighbours.now marks.now row) ≡ 2) × (corners.now ≡ face_corners) }
+pub(crate) fn shared_edge(neighbours: &[u32], marks: &[u8], row: usize) -> usize
+    requires { Surrounded neighbours.now marks.now row × (count 4 (between neighbours.now marks.now row) ≡ 2) }
     ensures { (result < 6) × (pick 4 (between neighbours.now marks.now row) ≡ opposite_corner result 0 ∷ opposite_corner result 1 ∷ []) }
 {
-    let mut edge = 0;
-    while !in_both(neighbours, marks, corners, row, edge) {
-        edge += 1;
-    }
-    edge
+    (0..6)
+        .find(|&edge| in_both(neighbours, marks, row, edge))
+        .unwrap()
 }

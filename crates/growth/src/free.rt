@@ -40,12 +40,5 @@ pub(crate) fn vertices_free(rows: &[u8], work: &[u32], ids: usize, adding: bool,
     ensures { (marks : List ℕ) → Area rows.now work.now marks ids
         → result ≡ all 4 (vertex_free (table_in rows.now) (other_side adding (inside_in marks)) row) }
 {
-    let mut corner = 0;
-    while corner < 4 {
-        if !vertex_free(rows, work, ids, adding, row, corner) {
-            return false;
-        }
-        corner += 1;
-    }
-    true
+    (0..4).all(|corner| vertex_free(rows, work, ids, adding, row, corner))
 }

@@ -4,6 +4,7 @@
 mod about;
 mod answering;
 mod cases;
+mod declined;
 mod edges;
 mod free;
 
@@ -33,12 +34,9 @@ pub fn answer_all(
         × (marks.new ≡ final_marks (table_in rows.now) marks.old (proposals_in proposals.now))
         × (work.new ≡ work_area (table_in rows.now) ids marks.new) }
 {
-    let n = proposals.len() / 8;
     let mut taken = 0;
-    let mut k = 0;
-    while k < n {
+    for k in 0..proposals.len() / 8 {
         taken += answer_one(rows, ids, proposals, k, answers, marks, work);
-        k += 1;
     }
     taken
 }

@@ -34,14 +34,12 @@ pub fn onward(rows: &[u8], neighbours: &[u32], a: usize, b: usize, from: usize, 
 {
     let mut row = across_at(neighbours, x, 0);
     let mut id = id_at(rows, x, 0);
-    let mut corner = 0;
-    while corner < 4 {
+    for corner in 0..4 {
         let left = id_at(rows, x, corner);
         let across = across_at(neighbours, x, corner);
         let on = (left != a) & (left != b) & (across != from);
         row = choose(on, across, row);
         id = choose(on, left, id);
-        corner += 1;
     }
     Way { row, id }
 }
@@ -64,6 +62,7 @@ pub fn turn(
     let mut at = second;
     let start = onward(rows, neighbours, a, b, first, second);
     let mut next = start.row;
+    // Counted for the loop's measure: `at` and `next` don't tell how far the walk is, and a `for` has an end that no walk comes to.
     let mut steps: usize = 0;
     while (next != first) & (is_inside(marks, next) == side) {
         let way = onward(rows, neighbours, a, b, at, next);

@@ -3,6 +3,7 @@ use Rattle.std.specs.Prelude.{◌≡◌, refl, Bool, true, false, ℕ, ◌+◌, 
 use Rattle.std.proofs.Math.Path.{sym, ap}
 use Rattle.std.proofs.Common.{◌∙◌, arith}
 use mathlib.Core.List.{List, ◌++◌}
+use mir.Val.{bool_byte}
 use Rattle.std.proofs.lemmas.Bool.{not-false}
 use Rattle.rules.specs.Below.{bit, tabulate}
 use Rattle.rules.specs.Table.{Table, holds, neighbour_list}
@@ -20,6 +21,12 @@ use Rattle.rules.specs.Reading.Work.{work_length, work_across, work_inside, work
 use Rattle.table.specs.Rows.{rows_in, id_in, table_in}
 use Rattle.table.specs.Ground.{Ground, ClosedGround}
 use Rattle.tallies.specs.Steps.{shifted, RowSteppable, step_row, row_stepped}
+
+-- a truth as a number, as the code has it and as `rules` does
+pub bit_of : (b : Bool) → bool_byte b ≡ bit b
+unfolding bit
+bit_of true = refl
+bit_of false = refl
 
 -- a closed table, a mark for each row, and the work area for these marks: what growing rests on
 pub record Area (rows work marks : List ℕ) (ids : ℕ) : Type 0 where

@@ -2,7 +2,7 @@
 // number of all rows that do. The work area is lent whole.
 #![tactic(auto)]
 
-ghost use Rattle.std.specs.Prelude.{◌≡◌, true, false, cond, List, ℕ, ◌+◌, ◌*◌, ◌≤◌, ◌<◌, set};
+ghost use Rattle.std.specs.Prelude.{◌≡◌, true, false, List, ℕ, ◌+◌, ◌*◌, ◌≤◌, ◌<◌, set};
 ghost use Rattle.rules.specs.Below.{bit};
 ghost use Rattle.rules.specs.Cases.{other_side};
 ghost use Rattle.rules.specs.Proposals.{inside_in};
@@ -15,7 +15,6 @@ ghost use Rattle.tallies.specs.Area.{Area};
 
 use skin::is_inside;
 use table::{clear, id_at, row_count};
-use values::from_u32;
 
 // One more, or one less.
 fn step(n: u32, up: bool) -> u32
@@ -37,10 +36,8 @@ fn step_row(rows: &[u8], first: usize, up: bool, row: usize, work: &mut [u32])
     requires { RowSteppable (table_in rows.now) first up row work.old × (row < rows_in rows.now) }
     ensures { work.new ≡ step_row (table_in rows.now) first up row 4 work.old }
 {
-    let mut corner = 0;
-    while corner < 4 {
+    for corner in 0..4 {
         step_at(first + id_at(rows, row, corner), up, work);
-        corner += 1;
     }
 }
 
@@ -52,23 +49,16 @@ fn tallies_at(rows: &[u8]) -> usize
     4 * row_count(rows)
 }
 
-fn count_if(counts: bool, rows: &[u8], first: usize, row: usize, work: &mut [u32])
-    requires { RowSteppable (table_in rows.now) first true row work.old × (row < rows_in rows.now) }
-    ensures { work.new ≡ cond counts (step_row (table_in rows.now) first true row 4 work.old) work.old }
-{
-    if counts {
-        step_row(rows, first, true, row, work);
-    }
-}
-
 // One row more: at its ids, of the inside rows if it is one of them, and of all rows.
 fn count_row(rows: &[u8], marks: &[u8], ids: usize, row: usize, work: &mut [u32])
     requires { ((work₀ : List ℕ) × Listed rows.now work₀ marks.now ids) × (row < rows_in rows.now) × (work.old ≡ counted (table_in rows.now) ids marks.now row) }
     ensures { work.new ≡ counted (table_in rows.now) ids marks.now (row + 1) }
 {
     let first = tallies_at(rows);
-    count_if(is_inside(marks, row), rows, first, row, work);
-    count_if(true, rows, first + ids, row, work);
+    if is_inside(marks, row) {
+        step_row(rows, first, true, row, work);
+    }
+    step_row(rows, first + ids, true, row, work);
 }
 
 // Counts all rows: makes the work area for the marks, of one that has the neighbour list at its front.
@@ -78,11 +68,8 @@ pub fn count_rows(rows: &[u8], marks: &[u8], ids: usize, work: &mut [u32])
 {
     let first = tallies_at(rows);
     clear(&mut work[first..]);
-    let n = row_count(rows);
-    let mut row = 0;
-    while row < n {
+    for row in 0..row_count(rows) {
         count_row(rows, marks, ids, row, work);
-        row += 1;
     }
 }
 
@@ -93,18 +80,11 @@ pub fn others_at(rows: &[u8], work: &[u32], ids: usize, adding: bool, id: usize)
         → result ≡ tally (table_in rows.now) (other_side adding (inside_in marks)) id }
 {
     let first = tallies_at(rows);
-    let inside = from_u32(work[first + id]);
+    let inside = work[first + id] as usize;
     if adding {
         return inside;
     }
-    from_u32(work[first + ids + id]) - inside
-}
-
-// The mark of an inside row, or of an outside row.
-fn mark_of(inside: bool) -> u8
-    ensures { result ≡ bit inside }
-{
-    if inside { 1 } else { 0 }
+    work[first + ids + id] as usize - inside
 }
 
 // A row goes to the other side: its mark is set, and the tallies of its four ids go with it.
@@ -113,6 +93,6 @@ pub fn flip_row(rows: &[u8], row: usize, adding: bool, marks: &mut [u8], work: &
     ensures { (marks.new ≡ set marks.old row (bit adding))
         × ((ids : ℕ) → Area rows.now work.old marks.old ids → work.new ≡ work_area (table_in rows.now) ids marks.new) }
 {
-    marks[row] = mark_of(adding);
+    marks[row] = u8::from(adding);
     step_row(rows, tallies_at(rows), adding, row, work);
 }

@@ -1,10 +1,6 @@
-use Rattle.std.proofs.Common.{◌-◌, ◌≤◌}
 use Rattle.round.specs.Edge.{Sought}
 use Rattle.table.specs.Rows.{table_in}
 use Rattle.round.proofs.onward.Given as goal
 
 abbrev pub invariant-loop-corner : goal.invariant-loop-corner
-invariant-loop-corner l = (l.corner ≤ 4) × Sought (table_in l.rows) l.a l.b l.from l.x l.corner l.row l.id
-
-abbrev pub decreases-loop-corner : goal.decreases-loop-corner
-decreases-loop-corner l = 4 - l.corner
+invariant-loop-corner l = Sought (table_in l.rows) l.a l.b l.from l.x l.corner l.row l.id

@@ -9,7 +9,7 @@ use Rattle.growth.proofs.cases.edge_free.Goals as goal
 
 pub shared_edge-edge-requires : goal.shared_edge-edge-requires
 shared_edge-edge-requires c =
-    (ground_surrounds _ _ c.requires.0.1 c.requires.1 c.requires.2, c.requires.3, c.corner_table-corners.ensures)
+    (ground_surrounds _ _ c.requires.0.1 c.requires.1 c.requires.2, c.requires.3)
 
 pub id_at-a-requires : goal.id_at-a-requires
 id_at-a-requires c = (search rules, rw c.opposite_corner.ensures (opposite_below _ 0 c.shared_edge-edge.ensures.0 (lit< tt)))

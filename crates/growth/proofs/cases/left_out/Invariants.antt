@@ -1,10 +1,6 @@
-use Rattle.std.proofs.Common.{◌-◌, ◌≤◌}
 use Rattle.growth.specs.Around.{Counted}
 use Rattle.skin.specs.Between.{between}
 use Rattle.growth.proofs.cases.left_out.Given as goal
 
 abbrev pub invariant-loop-corner : goal.invariant-loop-corner
-invariant-loop-corner l = (l.corner ≤ 4) × Counted (between l.neighbours l.marks l.row) l.corner l.count l.last
-
-abbrev pub decreases-loop-corner : goal.decreases-loop-corner
-decreases-loop-corner l = 4 - l.corner
+invariant-loop-corner l = Counted (between l.neighbours l.marks l.row) l.corner l.count l.last

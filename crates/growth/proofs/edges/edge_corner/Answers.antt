@@ -3,4 +3,4 @@ use Rattle.growth.specs.Edges.{edge_corner_read}
 use Rattle.growth.proofs.edges.edge_corner.Goals as goal
 
 pub returns : goal.returns
-returns c = c.corner_of.ensures ∙ edge_corner_read _ c.requires.0 _ c.requires.1
+returns c = c.corner_at.ensures ∙ edge_corner_read _ c.requires.0 _ c.requires.1

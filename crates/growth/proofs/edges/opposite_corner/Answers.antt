@@ -3,7 +3,7 @@ use Rattle.growth.specs.Edges.{edge_corner, opposite_edge_below, opposite_corner
 use Rattle.growth.proofs.edges.opposite_corner.Goals as goal
 
 pub edge_corner-requires : goal.edge_corner-requires
-edge_corner-requires c = (rw c.opposite.ensures (opposite_edge_below _ c.requires.0), c.requires.1, c.requires.2)
+edge_corner-requires c = (rw c.opposite.ensures (opposite_edge_below _ c.requires.0), c.requires.1)
 
 pub returns : goal.returns
 returns c =

@@ -1,16 +1,11 @@
-use Rattle.std.proofs.Common.{refl, sym, ◌∙◌, false, lit<}
-use Rattle.growth.specs.Edges.{in_both, opposite_shared, unshared_more}
-use Rattle.rules.specs.Below.{any}
+use Rattle.std.proofs.Common.{rules}
+use Rattle.values.specs.Searched.{lowest_found}
+use Rattle.skin.specs.Between.{between}
+use Rattle.growth.specs.Edges.{in_both, shared_there, shared_found}
 use Rattle.growth.proofs.edges.shared_edge.Goals as goal
 
-pub loop-edge-init : goal.loop-edge-init
-unfolding any
-loop-edge-init c = (lit< tt, refl)
-
-pub loop-edge-preserved : goal.loop-edge-preserved
-loop-edge-preserved c =
-    unshared_more _ c.requires.1 _ c.loop-edge.invariant.0 c.loop-edge.invariant.1 (sym c.in_both.ensures ∙ c.loop-edge-test.true)
+pub unwrap-requires : goal.unwrap-requires
+unwrap-requires c = shared_there _ c.requires.1 _ (lowest_found _ _ 6 (in_both (between _ _ _)) (search rules) (λ k l. absurd (search rules)) c.find.ensures.ran (λ x q k. search rules) (λ x q k. search rules))
 
 pub returns : goal.returns
-returns c =
-    (c.loop-edge.invariant.0, opposite_shared _ c.requires.1 _ c.loop-edge.invariant.0 (sym c.in_both.ensures ∙ c.loop-edge-test.false))
+returns c = shared_found _ c.requires.1 (lowest_found _ _ 6 (in_both (between _ _ _)) (search rules) (λ k l. absurd (search rules)) c.find.ensures.ran (λ x q k. search rules) (λ x q k. search rules)) c.unwrap.ensures
