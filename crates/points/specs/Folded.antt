@@ -1,6 +1,6 @@
 -- Code 15 asked once for each triangle: two neighbours are on the same side of it for either of them, so the lower one asks.
 use Rattle.std.specs.Prelude.{◌≡◌, refl, ◌≢◌, Bool, true, false, ◌&&◌, List, ℕ, ◌+◌, ◌*◌, ◌≤◌, ◌<◌, ltb, get_or, ℤ}
-use Rattle.std.proofs.Common.{sym, ◌∙◌, arith, lit<}
+use Rattle.std.proofs.Common.{sym, ◌∙◌, arith, lit<, le_refl, le_trans}
 use Rattle.std.proofs.Math.Path.{ap}
 use Rattle.std.proofs.Math.Logic.{⊎_elim}
 use Rattle.std.proofs.Math.Bool.{not, and_comm, and-false}
@@ -12,7 +12,7 @@ use Rattle.rules.specs.Skin.{triangle}
 use Rattle.rules.specs.Points.{Point, below_zero, above_zero, same_sign}
 use Rattle.rules.specs.Outward.{side_of, far_id, same_side, folded}
 use Rattle.rules.specs.Laws.Truth.{same_test, and_second, and_both, not_both, is_false, lower_or_higher}
-use Rattle.rules.specs.Laws.Below.{any_some, any_here, none_any, lowest_none}
+use Rattle.rules.specs.Laws.Below.{Lowest, any_some, any_here, none_any, lowest_none, is_lowest, none_lowest, lowest_or_none}
 use Rattle.rules.specs.Reading.Rows.{Holds}
 use Rattle.rules.specs.Reading.Neighbours.{Side}
 use Rattle.rules.specs.Reading.Closed.{Paired, across_is, across_other, across_below}
@@ -96,6 +96,12 @@ module _ (t : Table) (at : ℕ → Point) (r : ℕ) where
   unfoldable pub folded_above : Bool
   folded_above = any t.corners side_above
 
+folded_of : (t : Table) (at : ℕ → Point) (r : ℕ) → folded_above t at r ≡ true → folded t at r ≡ true
+unfolding folded folded_above side_above
+folded_of t at r q =
+    let (c, m, p) = any_some t.corners (side_above t at r) q in
+    any_here t.corners (same_side t at r) c m (and_second (ltb r (across t r c)) (same_side t at r c) p)
+
 -- where no lower row is folded, that is all there is to ask
 pub folded_asked : (bytes : List ℕ) {ids : ℕ} → Paired (table_in bytes) ids → (at : ℕ → Point) (r : ℕ) → r < rows_in bytes → lowest r (folded (table_in bytes) at) ≡ none
     → folded_above (table_in bytes) at r ≡ folded (table_in bytes) at r
@@ -107,6 +113,29 @@ folded_asked bytes paired at r l clear =
   where
     t : Table
     t = table_in bytes
+
+module _ (bytes : List ℕ) {ids : ℕ} (paired : Paired (table_in bytes) ids) (at : ℕ → Point) where
+  asks : ℕ → Bool
+  asks = folded_above (table_in bytes) at
+
+  fold : ℕ → Bool
+  fold = folded (table_in bytes) at
+
+  asks_lowest : (n k : ℕ) → n ≤ rows_in bytes → Lowest n fold k → asks k ≡ true
+  unfolding asks fold
+  asks_lowest n k few low = folded_asked bytes paired at k (le_trans low.below few) (none_lowest k fold low.first) ∙ low.passes
+
+  -- the first row that asks so is the first that is folded
+  pub lowest_asked : lowest (rows_in bytes) (folded_above (table_in bytes) at) ≡ lowest (rows_in bytes) (folded (table_in bytes) at)
+  unfolding asks fold
+  lowest_asked =
+      ⊎_elim (λ (k, low). is_lowest (rows_in bytes) asks k (record {
+        below = low.below;
+        passes = asks_lowest (rows_in bytes) k (le_refl _) low;
+        first = λ j l. is_false (asks j) (λ q. not_both (folded_of (table_in bytes) at j q) (low.first j l));
+      }) ∙ sym (is_lowest (rows_in bytes) fold k low))
+      (λ off. none_lowest (rows_in bytes) asks (λ j l. is_false (asks j) (λ q. not_both (folded_of (table_in bytes) at j q) (off j l))) ∙ sym (none_lowest (rows_in bytes) fold off))
+      (lowest_or_none (rows_in bytes) fold)
 
 -- ---- as the code asks
 

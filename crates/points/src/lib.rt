@@ -11,9 +11,8 @@ ghost use Rattle.rules.specs.Outward.{far_id, off_grid, flat, folded, right_way}
 ghost use Rattle.rules.specs.Job.{most_ids, point_tests};
 ghost use Rattle.rules.specs.Reading.Rows.{Rising};
 ghost use Rattle.rules.specs.Reading.Closed.{Paired};
-ghost use Rattle.values.specs.Search.{place_of};
+ghost use Rattle.values.specs.Places.{place_of};
 ghost use Rattle.table.specs.Rows.{table_in, rows_in};
-ghost use Rattle.table.specs.Faces.{face_corners};
 ghost use Rattle.table.specs.Ground.{Ground};
 ghost use Rattle.volume.specs.Bound.{Exact, product_most};
 ghost use Rattle.points.specs.Grid.{Grid};
@@ -21,16 +20,14 @@ ghost use Rattle.points.specs.Sides.{side_at, FaceBelow, id_sum};
 ghost use Rattle.points.specs.Folded.{side_above, folded_above};
 ghost use Rattle.points.specs.Placed.{verdict_of};
 
-use table::faces::{Face, corner_table, face_of};
+use table::faces::Face;
 use table::{across_at, id_at, row_count};
-use values::Found;
 use volume::{at_origin, is_zero, on_grid, point_at, same_sign, volume};
 
-// The first rule that the points break, with the id or the lowest row that breaks it.
+// The first rule that the points break, with the id or the lowest row that breaks it. Where none is broken, all points are in range, no finite row
+// is flat, and finite neighbours are on different sides of their triangle.
 #[derive(Clone, Copy)]
 pub enum Misplaced {
-    // All points are in range, no finite row is flat, and finite neighbours are on different sides of their triangle.
-    Nothing,
     // A point out of range, or that of id 0 not three zeros.
     Point(usize),
     // A finite row of zero volume.
@@ -50,18 +47,11 @@ fn is_off(points: &[u8], id: usize) -> bool
 }
 
 // The first id whose point is out of range, or 0 where that is not three zeros.
-fn off_grid(points: &[u8], ids: usize) -> Found
+fn off_grid(points: &[u8], ids: usize) -> Option<usize>
     requires { (ids ≤ most_ids) × (6 * ids ≤ length points.now) }
     ensures { place_of result ≡ lowest ids (off_grid (point_in points.now)) }
 {
-    let mut id = 0;
-    while id < ids {
-        if is_off(points, id) {
-            return Found::At(id);
-        }
-        id += 1;
-    }
-    Found::Nowhere
+    (0..ids).find(|&id| is_off(points, id))
 }
 
 // ---- rows and their fourth corners
@@ -120,19 +110,11 @@ fn is_flat(rows: &[u8], points: &[u8], ids: usize, row: usize) -> bool
 }
 
 // The first finite row of zero volume.
-fn flat_row(rows: &[u8], points: &[u8], ids: usize) -> Found
+fn flat_row(rows: &[u8], points: &[u8], ids: usize) -> Option<usize>
     requires { Paired (table_in rows.now) ids × Grid points.now ids }
     ensures { place_of result ≡ lowest (rows_in rows.now) (flat (table_in rows.now) (point_in points.now)) }
 {
-    let n = row_count(rows);
-    let mut row = 0;
-    while row < n {
-        if is_flat(rows, points, ids, row) {
-            return Found::At(row);
-        }
-        row += 1;
-    }
-    Found::Nowhere
+    (0..row_count(rows)).find(|&row| is_flat(rows, points, ids, row))
 }
 
 // ---- 15
@@ -157,93 +139,77 @@ fn side_above(
     neighbours: &[u32],
     points: &[u8],
     ids: usize,
-    corners: &[u8; 42],
     row: usize,
     corner: usize,
 ) -> bool
-    requires { Ground rows.now neighbours.now ids × Grid points.now ids × (corners.now ≡ face_corners) × (row < rows_in rows.now) × (corner < 4)
+    requires { Ground rows.now neighbours.now ids × Grid points.now ids × (row < rows_in rows.now) × (corner < 4)
         × (outer (table_in rows.now) row ≡ false) }
     ensures { result ≡ side_above (table_in rows.now) (point_in points.now) row corner }
 {
     if across_at(neighbours, row, corner) <= row {
         return false;
     }
-    let face = face_of(rows, corners, row, corner);
+    let face = Face::of(rows, row, corner);
     let far = far_id(rows, neighbours, ids, row, corner);
     same_side_of(points, ids, face, id_at(rows, row, corner), far)
 }
 
 // A finite row and a higher neighbour are on the same side of a triangle. A lower neighbour has asked.
-fn folded_above(
-    rows: &[u8],
-    neighbours: &[u32],
-    points: &[u8],
-    ids: usize,
-    corners: &[u8; 42],
-    row: usize,
-) -> bool
-    requires { Ground rows.now neighbours.now ids × Grid points.now ids × (corners.now ≡ face_corners) × (row < rows_in rows.now) }
+fn folded_above(rows: &[u8], neighbours: &[u32], points: &[u8], ids: usize, row: usize) -> bool
+    requires { Ground rows.now neighbours.now ids × Grid points.now ids × (row < rows_in rows.now) }
     ensures { result ≡ folded_above (table_in rows.now) (point_in points.now) row }
 {
     if is_outer(rows, row) {
         return false;
     }
-    side_above(rows, neighbours, points, ids, corners, row, 0)
-        | side_above(rows, neighbours, points, ids, corners, row, 1)
-        | side_above(rows, neighbours, points, ids, corners, row, 2)
-        | side_above(rows, neighbours, points, ids, corners, row, 3)
+    (0..4).any(|corner| side_above(rows, neighbours, points, ids, row, corner))
 }
 
 // The first finite row with a finite neighbour on the same side of their triangle.
-fn folded_row(rows: &[u8], neighbours: &[u32], points: &[u8], ids: usize) -> Found
+fn folded_row(rows: &[u8], neighbours: &[u32], points: &[u8], ids: usize) -> Option<usize>
     requires { Ground rows.now neighbours.now ids × Grid points.now ids }
     ensures { place_of result ≡ lowest (rows_in rows.now) (folded (table_in rows.now) (point_in points.now)) }
 {
-    let corners = corner_table();
-    let n = row_count(rows);
-    let mut row = 0;
-    while row < n {
-        if folded_above(rows, neighbours, points, ids, &corners, row) {
-            return Found::At(row);
-        }
-        row += 1;
-    }
-    Found::Nowhere
+    (0..row_count(rows)).find(|&row| folded_above(rows, neighbours, points, ids, row))
 }
 
 // The first of the refusals 13 to 15.
-pub fn check_points(rows: &[u8], neighbours: &[u32], points: &[u8], ids: usize) -> Misplaced
+pub fn check_points(
+    rows: &[u8],
+    neighbours: &[u32],
+    points: &[u8],
+    ids: usize,
+) -> Result<(), Misplaced>
     requires { Ground rows.now neighbours.now ids × (ids ≤ most_ids) × (6 * ids ≤ length points.now) }
     ensures { verdict_of result ≡ first_match 13 (point_tests (table_in rows.now) ids (some (point_in points.now))) }
 {
-    match off_grid(points, ids) {
-        Found::At(id) => Misplaced::Point(id),
-        Found::Nowhere => match flat_row(rows, points, ids) {
-            Found::At(row) => Misplaced::Flat(row),
-            Found::Nowhere => match folded_row(rows, neighbours, points, ids) {
-                Found::At(row) => Misplaced::Folded(row),
-                Found::Nowhere => Misplaced::Nothing,
-            },
-        },
+    if let Some(id) = off_grid(points, ids) {
+        return Err(Misplaced::Point(id));
     }
+    if let Some(row) = flat_row(rows, points, ids) {
+        return Err(Misplaced::Flat(row));
+    }
+    if let Some(row) = folded_row(rows, neighbours, points, ids) {
+        return Err(Misplaced::Folded(row));
+    }
+    Ok(())
 }
 
 // ---- outward
 
-// The rising ids of the triangle of an inside row pass outward. The corner table is lent.
+// The rising ids of the triangle of an inside row pass outward.
 pub fn right_way(
     rows: &[u8],
     neighbours: &[u32],
     points: &[u8],
     ids: usize,
-    corners: &[u8; 42],
     row: usize,
     corner: usize,
 ) -> bool
-    requires { Ground rows.now neighbours.now ids × Grid points.now ids × (corners.now ≡ face_corners) × (row < rows_in rows.now) × (corner < 4) }
+    requires { Ground rows.now neighbours.now ids × Grid points.now ids × (row < rows_in rows.now) × (corner < 4) }
     ensures { result ≡ right_way (table_in rows.now) (point_in points.now) row corner }
 {
-    let face = face_of(rows, corners, row, corner);
+    let face = Face::of(rows, row, corner);
     let outer = is_outer(rows, row);
     if outer {
         let far = far_id(rows, neighbours, ids, row, corner);

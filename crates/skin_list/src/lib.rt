@@ -11,7 +11,7 @@ ghost use Rattle.rules.specs.Outward.{right_way, triangle_as};
 ghost use Rattle.rules.specs.Proposals.{inside_in};
 ghost use Rattle.rules.specs.Job.{written};
 ghost use Rattle.table.specs.Rows.{id_in, table_in, rows_in};
-ghost use Rattle.table.specs.Faces.{face_corners, corner_of};
+ghost use Rattle.table.specs.Faces.{corner_of};
 ghost use Rattle.table.specs.Ground.{Ground};
 ghost use Rattle.points.specs.Grid.{Grid};
 ghost use Rattle.skin.specs.Between.{between};
@@ -19,16 +19,16 @@ ghost use Rattle.skin_list.specs.Listing.{in_order};
 
 use points::right_way;
 use skin::{is_between, is_inside};
-use table::faces::{corner_of, corner_table};
+use table::faces::corner_at;
 use table::{id_at, row_count};
 use values::choose;
 
 // An id of the triangle of a row that leaves out a corner.
-fn triangle_id(rows: &[u8], corners: &[u8; 42], row: usize, corner: usize, k: usize) -> u32
-    requires { (row < rows_in rows.now) × (corner < 4) × (k < 3) × (corners.now ≡ face_corners) }
+fn triangle_id(rows: &[u8], row: usize, corner: usize, k: usize) -> u32
+    requires { (row < rows_in rows.now) × (corner < 4) × (k < 3) }
     ensures { result ≡ id_in rows.now row (corner_of corner k) }
 {
-    id_at(rows, row, corner_of(corners, corner, k)) as u32
+    id_at(rows, row, corner_at(corner, k)) as u32
 }
 
 // Writes three ids from a place on.
@@ -36,9 +36,7 @@ fn put_ids(triangles: &mut [u32], at: usize, a: u32, b: u32, c: u32)
     requires { at + 3 ≤ length triangles.old }
     ensures { triangles.new ≡ set (set (set triangles.old at a) (at + 1) b) (at + 2) c }
 {
-    triangles[at] = a;
-    triangles[at + 1] = b;
-    triangles[at + 2] = c;
+    triangles[at..at + 3].copy_from_slice(&[a, b, c]);
 }
 
 // Puts the triangle behind the n that are listed, if it is to be listed; where it is turned, with its last two ids exchanged.
@@ -46,20 +44,19 @@ fn put(
     listed: bool,
     turned: bool,
     rows: &[u8],
-    corners: &[u8; 42],
     row: usize,
     corner: usize,
     triangles: &mut [u32],
     n: usize,
 ) -> usize
-    requires { (row < rows_in rows.now) × (corner < 4) × (listed ≡ true → 3 * n + 3 ≤ length triangles.old) × (corners.now ≡ face_corners) }
+    requires { (row < rows_in rows.now) × (corner < 4) × (listed ≡ true → 3 * n + 3 ≤ length triangles.old) }
     ensures { (result ≡ cond listed (n + 1) n)
         × (triangles.new ≡ cond listed (sets triangles.old (3 * n) (in_order turned (table_in rows.now) row corner)) triangles.old) }
 {
     if listed {
-        let a = triangle_id(rows, corners, row, corner, 0);
-        let b = triangle_id(rows, corners, row, corner, choose(turned, 2, 1));
-        let c = triangle_id(rows, corners, row, corner, choose(turned, 1, 2));
+        let a = triangle_id(rows, row, corner, 0);
+        let b = triangle_id(rows, row, corner, choose(turned, 2, 1));
+        let c = triangle_id(rows, row, corner, choose(turned, 1, 2));
         put_ids(triangles, 3 * n, a, b, c);
         return n + 1;
     }
@@ -81,21 +78,17 @@ fn is_turned(
     neighbours: &[u32],
     points: &[u8],
     ids: usize,
-    corners: &[u8; 42],
     row: usize,
     corner: usize,
 ) -> bool
-    requires { Ground rows.now neighbours.now ids × (asked ≡ true → Grid points.now ids) × (row < rows_in rows.now) × (corner < 4) × (corners.now ≡ face_corners) }
+    requires { Ground rows.now neighbours.now ids × (asked ≡ true → Grid points.now ids) × (row < rows_in rows.now) × (corner < 4) }
     ensures { result ≡ (asked && not (right_way (table_in rows.now) (point_in points.now) row corner)) }
 {
-    if asked {
-        return !right_way(rows, neighbours, points, ids, corners, row, corner);
-    }
-    false
+    asked && !right_way(rows, neighbours, points, ids, row, corner)
 }
 
 // Writes the skin to the front of the triangles, row by row and by left-out corner, rising or outward, and tells how many triangles it
-// has. Where outward is not asked for, no point is read.
+// has. Where outward is not asked for, no point is read. The number of triangles listed stands beside their buffer: the C interface lends it.
 pub fn list_skin(
     rows: &[u8],
     neighbours: &[u32],
@@ -110,26 +103,14 @@ pub fn list_skin(
     ensures { (result ≡ length (skin_as (table_in rows.now) (inside_in marks.now) (triangle_as (table_in rows.now) outward (some (point_in points.now)))))
         × (triangles.new ≡ written (flatten (skin_as (table_in rows.now) (inside_in marks.now) (triangle_as (table_in rows.now) outward (some (point_in points.now))))) triangles.old) }
 {
-    let corners = corner_table();
     let end = 4 * row_count(rows);
     let mut n = 0;
-    let mut place = 0;
-    while place < end {
+    for place in 0..end {
         let row = place / 4;
         let corner = place % 4;
         let listed = is_listed(neighbours, marks, row, corner);
-        let turned = is_turned(
-            listed & outward,
-            rows,
-            neighbours,
-            points,
-            ids,
-            &corners,
-            row,
-            corner,
-        );
-        n = put(listed, turned, rows, &corners, row, corner, triangles, n);
-        place += 1;
+        let turned = is_turned(listed & outward, rows, neighbours, points, ids, row, corner);
+        n = put(listed, turned, rows, row, corner, triangles, n);
     }
     n
 }

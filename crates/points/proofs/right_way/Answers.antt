@@ -5,26 +5,26 @@ use Rattle.points.proofs.right_way.Goals as goal
 
 pub side_of-requires : goal.side_of-requires
 side_of-requires c =
-    let (ground, grid, same, l, m) = c.requires in
-    (grid, face_below _ ground.paired _ _ l m c.face_of-face.ensures, rw c.far_id-far.ensures (far_below _ ground.paired _ _ l m))
+    let (ground, grid, l, m) = c.requires in
+    (grid, face_below _ ground.paired _ _ l m c.of-face.ensures, rw c.far_id-far.ensures (far_below _ ground.paired _ _ l m))
 
 pub returns-then-outer : goal.returns-then-outer
 unfolding above_zero
 returns-then-outer c =
-    let (ground, grid, same, l, m) = c.requires in
+    let (ground, grid, l, m) = c.requires in
     let side = c.side_of.ensures in
     rw (back side.within tt)
-    (outer_way _ _ _ _ m c.face_of-face.ensures c.is_outer-outer.ensures side.is c.if-outer.true c.far_id-far.ensures)
+    (outer_way _ _ _ _ m c.of-face.ensures c.is_outer-outer.ensures side.is c.if-outer.true c.far_id-far.ensures)
 
 pub side_of-requires-2 : goal.side_of-requires-2
 side_of-requires-2 c =
-    let (ground, grid, same, l, m) = c.requires in
-    (grid, face_below _ ground.paired _ _ l m c.face_of-face.ensures, rw c.id_at.ensures (ground.paired.below _ l _ m))
+    let (ground, grid, l, m) = c.requires in
+    (grid, face_below _ ground.paired _ _ l m c.of-face.ensures, rw c.id_at.ensures (ground.paired.below _ l _ m))
 
 pub returns : goal.returns
 unfolding below_zero
 returns c =
-    let (ground, grid, same, l, m) = c.requires in
+    let (ground, grid, l, m) = c.requires in
     let side = c.side_of-2.ensures in
     rw (back side.within tt)
-    (finite_way _ _ _ _ m c.face_of-face.ensures c.is_outer-outer.ensures side.is c.if-outer.false c.id_at.ensures)
+    (finite_way _ _ _ _ m c.of-face.ensures c.is_outer-outer.ensures side.is c.if-outer.false c.id_at.ensures)

@@ -17,7 +17,6 @@ put-n-requires c =
       omega (arith, here),
       search rules,
       next_room c.requires.0 _ _ (three_each _ _ _ refl) c.loop-place.invariant here c.requires.2 c.is_listed-listed.ensures,
-      c.corner_table-corners.ensures,
     )
 
 pub loop-place-preserved : goal.loop-place-preserved
