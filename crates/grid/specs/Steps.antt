@@ -1,5 +1,5 @@
 -- What the code's steps rest on.
-use Rattle.std.specs.Prelude.{◌≡◌, ℕ, zero, suc, ◌+◌, ◌-◌, ◌*◌, ◌/◌, ◌^◌, ◌<◌, ◌≤◌, min, Bool, true, false, not, ◌&&◌, T, ℤ, pos, negsuc, neg_ℤ, FitsSigned, ◌==◌, ◌≢◌, nat_le, nat_lt, refl, Float}
+use Rattle.std.specs.Prelude.{◌≡◌, ℕ, zero, suc, ◌+◌, ◌-◌, ◌*◌, ◌/◌, ◌^◌, ◌<◌, ◌≤◌, min, Bool, true, false, not, ◌&&◌, T, ℤ, pos, negsuc, neg_ℤ, FitsSigned, ◌==◌, ◌≢◌, nat_le, nat_lt, refl, Ok, Err, Float}
 use Rattle.std.proofs.Common.{sym, ap, ◌∙◌, subst, ⊎_elim, div-lt_iff_lt-mul, arith, to_z, of_z, eqb-true, ltb-true, le-leb, lt-ltb, leb-true}
 use Rattle.std.proofs.Math.Nat.{min-le_left}
 use Rattle.std.specs.Int.Signed.{mag}
@@ -12,11 +12,10 @@ use Rattle.std.specs.Float.Ieee.Fits.{down_pos}
 use Rattle.rules.specs.Laws.Truth.{not_both, or_either, and_first, or_first}
 use Rattle.rules.specs.Points.{in_range}
 use Rattle.rules.specs.Stl.{bits_of}
-use Rattle.grid.specs.Numbers.{read}
+use Rattle.grid.specs.Numbers.{stood, read}
 use Rattle.grid.specs.Sweep.{times}
 use Rattle.grid.specs.Exact.{comes_back}
 use Rattle.grid.specs.Named.{Names, named_on, off}
-use Rattle.grid.specs.declared.Number.TheVariants.{Units, Off}
 
 pub finite_number : (x : Float) (s : Bool) (a c : ℕ) → HasValue x s a c → T (not (is_nan x))
 unfolding is_nan
@@ -80,21 +79,21 @@ small (fin false m e) p q =
 
 -- ---- what is read
 
-pub reads_units : (bits facet : ℕ) (u : ℤ) → Names bits u → read bits facet ≡ Units u
+pub reads_units : (bits facet : ℕ) (u : ℤ) → Names bits u → read bits facet ≡ Ok u
 unfolding read
 reads_units bits facet u n = let (on, same) = named_on bits u n in rw (on, same)
 
-reads_off : (bits facet : ℕ) → ((u : ℤ) → Names bits u → ⊥) → read bits facet ≡ Off (of_bits binary32 bits) bits facet
+reads_off : (bits facet : ℕ) → ((u : ℤ) → Names bits u → ⊥) → read bits facet ≡ Err (stood bits facet)
 unfolding read
 reads_off bits facet none = rw (off bits none)
 
-pub low_off : (bits facet : ℕ) → le (neg (of_bits binary32 0x447f_c000)) (times bits) ≡ false → read bits facet ≡ Off (of_bits binary32 bits) bits facet
+pub low_off : (bits facet : ℕ) → le (neg (of_bits binary32 0x447f_c000)) (times bits) ≡ false → read bits facet ≡ Err (stood bits facet)
 low_off bits facet h = reads_off bits facet (λ u (on, e). not_both (subst (λ (b : ℕ). le (neg (of_bits binary32 0x447f_c000)) (times b) ≡ true) (sym e) (comes_back u on).above) h)
 
-pub high_off : (bits facet : ℕ) → le (times bits) (of_bits binary32 0x447f_c000) ≡ false → read bits facet ≡ Off (of_bits binary32 bits) bits facet
+pub high_off : (bits facet : ℕ) → le (times bits) (of_bits binary32 0x447f_c000) ≡ false → read bits facet ≡ Err (stood bits facet)
 high_off bits facet h = reads_off bits facet (λ u (on, e). not_both (subst (λ (b : ℕ). le (times b) (of_bits binary32 0x447f_c000) ≡ true) (sym e) (comes_back u on).below) h)
 
-pub other_off : (bits facet : ℕ) → (bits_of (to_signed 63 (times bits)) ≢ bits) → read bits facet ≡ Off (of_bits binary32 bits) bits facet
+pub other_off : (bits facet : ℕ) → (bits_of (to_signed 63 (times bits)) ≢ bits) → read bits facet ≡ Err (stood bits facet)
 other_off bits facet h = reads_off bits facet (λ u (on, e). h (ap (λ (b : ℕ). bits_of (to_signed 63 (times b))) e ∙ ap bits_of (comes_back u on).units ∙ sym e))
 
 -- ---- grid units in an i16 and an i64

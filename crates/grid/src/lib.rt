@@ -7,12 +7,12 @@ ghost use Rattle.rules.specs.Points.{in_range};
 ghost use Rattle.rules.specs.Stl.{metres, bits_of};
 ghost use Rattle.grid.specs.Numbers.{read};
 
-// What a number of a file says: grid units; or the number itself, its bits and its facet. All NaNs are one number here, so that only the
-// bits hand each back as it stood.
+// A number off the grid: itself, its bits and its facet. All NaNs are one number here, so that only the bits hand each back as it stood.
 #[derive(Clone, Copy)]
-pub enum Number {
-    Units(i16),
-    Off(f32, u32, u32),
+pub struct OffGrid {
+    pub number: f32,
+    pub bits: u32,
+    pub facet: u32,
 }
 
 // The units divided by 16.
@@ -34,13 +34,13 @@ pub fn float_of(bits: u32) -> f32
     ensures { result ≡ from_bits binary32 bits }
 {
     if bits % 0x8000_0000 > 0x7f80_0000 {
-        return 0.0 / 0.0;
+        return f32::NAN;
     }
     f32::from_bits(bits)
 }
 
-// What a number says, by itself and its bits.
-pub fn number_of(x: f32, bits: u32, facet: u32) -> Number
+// The units that a number says, by itself and its bits.
+pub fn number_of(x: f32, bits: u32, facet: u32) -> Result<i16, OffGrid>
     requires { x ≡ from_bits binary32 bits }
     ensures { result ≡ read bits facet }
 {
@@ -49,9 +49,13 @@ pub fn number_of(x: f32, bits: u32, facet: u32) -> Number
         if y <= 1023.0 {
             let units = std::num::truncating_f32_to_i64(y) as i16;
             if bits_of(units) == bits {
-                return Number::Units(units);
+                return Ok(units);
             }
         }
     }
-    Number::Off(x, bits, facet)
+    Err(OffGrid {
+        number: x,
+        bits,
+        facet,
+    })
 }

@@ -1,5 +1,5 @@
 -- What the code of `stl` means beyond `rules`, and the laws by which it is proved:
---     Header   the bytes of the header, one by one
+--     Stores   bytes that are copied or filled at a place
 --     Corners  corners of three f32, in bytes and in a list of units
 --     Filling  a file that is filled facet by facet
 --     Writing  the facet writer's answer, as `rules` has it
@@ -7,7 +7,7 @@
 --     Reading  the reader's answer, as `rules` has it
 --     Search   the search for the first facet at fault
 --     Units    the units that a number says, and units that are written one by one
-pub mod Header
+pub mod Stores
 pub mod Corners
 pub mod Filling
 pub mod Writing

@@ -1,5 +1,5 @@
 -- The reader's answer, as `rules` has it.
-use Rattle.std.specs.Prelude.{◌≡◌, Bool, not, cond, List, [], ◌∷◌, ℕ, ◌*◌, eqb, ℤ, length, Float}
+use Rattle.std.specs.Prelude.{◌≡◌, Bool, not, cond, List, [], ◌∷◌, ℕ, ◌*◌, eqb, ℤ, length, Result, Ok, Err, Float}
 use Rattle.std.proofs.Math.Path.{refl, sym, ap}
 use Rattle.std.proofs.Common.{◌∙◌}
 use Rattle.std.proofs.Math.Bool.{true, false}
@@ -15,65 +15,58 @@ use Rattle.rules.specs.Laws.Below.{lowest_is}
 use Rattle.trips.specs.Readable.{Readable}
 use Rattle.trips.proofs.Readable.{read_exactly, read_whole, read_verdict}
 use Rattle.stl.specs.Faults.{facet_fault, fault_told}
-use Rattle.stl.specs.declared.reader.Fault.{Fault}
-use Rattle.stl.specs.declared.reader.Fault.TheVariants as fault
-use Rattle.stl.specs.declared.reader.Reading.{Reading}
-use Rattle.stl.specs.declared.reader.Reading.TheVariants.{Facets, Length, Header, Room, NotZero, Off}
+use Rattle.stl.specs.declared.reader.Refusal.{Refusal}
+use Rattle.stl.specs.declared.reader.Refusal.TheVariants.{Length, Header, Room, NotZero, Off}
 
 -- code and place of an answer
-unfoldable pub verdict_of : Reading → Verdict
-verdict_of (Facets n) = record { code = 0; place = 0 }
-verdict_of Length = record { code = 1; place = 0 }
-verdict_of Header = record { code = 2; place = 0 }
-verdict_of Room = record { code = 3; place = 0 }
-verdict_of (NotZero f) = record { code = 4; place = f }
-verdict_of (Off x bits f) = record { code = 5; place = f }
+unfoldable pub verdict_of : Result ℕ Refusal → Verdict
+verdict_of (Ok n) = record { code = 0; place = 0 }
+verdict_of (Err Length) = record { code = 1; place = 0 }
+verdict_of (Err Header) = record { code = 2; place = 0 }
+verdict_of (Err Room) = record { code = 3; place = 0 }
+verdict_of (Err (NotZero f)) = record { code = 4; place = f }
+verdict_of (Err (Off o)) = record { code = 5; place = o.facet }
 
 -- how many facets were read
-unfoldable pub facets_in : Reading → ℕ
-facets_in (Facets n) = n
-facets_in Length = 0
-facets_in Header = 0
-facets_in Room = 0
-facets_in (NotZero f) = 0
-facets_in (Off x bits f) = 0
+unfoldable pub facets_in : Result ℕ Refusal → ℕ
+facets_in (Ok n) = n
+facets_in (Err Length) = 0
+facets_in (Err Header) = 0
+facets_in (Err Room) = 0
+facets_in (Err (NotZero f)) = 0
+facets_in (Err (Off o)) = 0
 
 -- the number off the grid and its bits
-unfoldable pub off_in : Reading → Option (Float × ℕ)
-off_in (Facets n) = none
-off_in Length = none
-off_in Header = none
-off_in Room = none
-off_in (NotZero f) = none
-off_in (Off x bits f) = some (x, bits)
+unfoldable pub off_in : Result ℕ Refusal → Option (Float × ℕ)
+off_in (Ok n) = none
+off_in (Err Length) = none
+off_in (Err Header) = none
+off_in (Err Room) = none
+off_in (Err (NotZero f)) = none
+off_in (Err (Off o)) = some (o.number, o.bits)
 
 -- an answer, and the lent units as left
-abbrev pub told : Reading → List ℤ → Read
+abbrev pub told : Result ℕ Refusal → List ℤ → Read
 told answer left = record { verdict = verdict_of answer; facets = facets_in answer; off = off_in answer; left = left }
 
 -- the answer to the first facet at fault
-unfoldable pub at_fault : Fault → ℕ → Reading
-at_fault fault.Sound f = Facets 0
-at_fault fault.NotZero f = NotZero f
-at_fault (fault.Off x bits facet) f = Off x bits facet
+unfoldable pub at_fault : Result (Unit {0}) Refusal → Result ℕ Refusal
+at_fault (Ok _) = Ok 0
+at_fault (Err refusal) = Err refusal
 
-unfoldable pub searched : List ℕ → Option ℕ → Reading
-searched bytes none = Facets (count_in bytes)
-searched bytes (some f) = at_fault (facet_fault bytes f) f
+unfoldable pub searched : List ℕ → Option ℕ → Result ℕ Refusal
+searched bytes none = Ok (count_in bytes)
+searched bytes (some f) = at_fault (facet_fault bytes f)
 
 -- the answer to the file and room for so many numbers
-unfoldable pub reading : List ℕ → ℕ → Reading
+unfoldable pub reading : List ℕ → ℕ → Result ℕ Refusal
 reading bytes room =
-    cond (ill_sized bytes) Length (cond (not (headed bytes)) Header (cond (ltb room (9 * count_in bytes)) Room (searched bytes (first_fault bytes))))
+    cond (ill_sized bytes) (Err Length) (cond (not (headed bytes)) (Err Header) (cond (ltb room (9 * count_in bytes)) (Err Room) (searched bytes (first_fault bytes))))
 
 -- what an answer leaves of the lent units
-unfoldable pub left_by : Reading → List ℕ → List ℤ → List ℤ
-left_by (Facets n) bytes lent = written (units_in bytes) lent
-left_by Length bytes lent = lent
-left_by Header bytes lent = lent
-left_by Room bytes lent = lent
-left_by (NotZero f) bytes lent = lent
-left_by (Off x bits f) bytes lent = lent
+unfoldable pub left_by : Result ℕ Refusal → List ℕ → List ℤ → List ℤ
+left_by (Ok n) bytes lent = written (units_in bytes) lent
+left_by (Err refusal) bytes lent = lent
 
 -- ---- it is the answer of `rules`
 
@@ -87,7 +80,7 @@ module _ (bytes : List ℕ) (lent : List ℤ) where
   unfolding read_file
   by e = sym (ap answer_by e)
 
-  abbrev answered : Reading → Read
+  abbrev answered : Result ℕ Refusal → Read
   answered a = told a (left_by a bytes lent)
 
   module _ (sized : ill_sized bytes ≡ false) (head : headed bytes ≡ true) (roomy : ltb (length lent) (9 * count_in bytes) ≡ false) where
@@ -96,26 +89,29 @@ module _ (bytes : List ℕ) (lent : List ℤ) where
     unfolding read_tests given found
     at_facets = match_later 1 _ _ (rw sized) ∙ match_later 2 _ _ (rw head) ∙ match_later 3 _ _ (rw roomy)
 
-    at_fault_lem : (f : ℕ) → first_fault bytes ≡ some f → (x : Fault) → x ≡ facet_fault bytes f → answered (at_fault x f) ≡ read_file bytes lent
+    at_fault_lem : (f : ℕ) → first_fault bytes ≡ some f → (x : Result (Unit {0}) Refusal) → x ≡ facet_fault bytes f → answered (at_fault x) ≡ read_file bytes lent
     unfolding at_fault left_by verdict_of facets_in off_in handed_back not_zero found first_fault
-    at_fault_lem f e fault.Sound is = absurd (not_both (lowest_is (count_in bytes) (faulty bytes) f e).passes (fault_told bytes f is))
-    at_fault_lem f e fault.NotZero is = by (at_facets ∙ match_here 4 _ _ f (rw (e, (fault_told bytes f is).0)))
-    at_fault_lem f e (fault.Off x bits facet) is =
+    at_fault_lem f e (Ok _) is = absurd (not_both (lowest_is (count_in bytes) (faulty bytes) f e).passes (fault_told bytes f is))
+    at_fault_lem f e (Err (NotZero g)) is = let t = fault_told bytes f is in rw t.0 (by (at_facets ∙ match_here 4 _ _ f (rw (e, t.1))))
+    at_fault_lem f e (Err (Off o)) is =
         let a = fault_told bytes f is in
-        rw (a.bits_is, a.number_is, a.facet_is) (by (at_facets ∙ match_later 4 _ _ (rw (e, a.blank_is)) ∙ match_here 5 _ _ f e))
+        rw a.off_is (by (at_facets ∙ match_later 4 _ _ (rw (e, a.blank_is)) ∙ match_here 5 _ _ f e))
+    at_fault_lem f e (Err Length) is = absurd (fault_told bytes f is)
+    at_fault_lem f e (Err Header) is = absurd (fault_told bytes f is)
+    at_fault_lem f e (Err Room) is = absurd (fault_told bytes f is)
 
-    no_fault : first_fault bytes ≡ none → answered (Facets (count_in bytes)) ≡ read_file bytes lent
+    no_fault : first_fault bytes ≡ none → answered (Ok (count_in bytes)) ≡ read_file bytes lent
     unfolding left_by verdict_of facets_in off_in not_zero
     no_fault e = by (at_facets ∙ match_later 4 _ _ (rw e) ∙ match_later 5 _ _ e ∙ match_end 6)
 
-  pub told_reading : {a : Reading} → a ≡ reading bytes (length lent) → {left : List ℤ} → left ≡ left_by a bytes lent → told a left ≡ read_file bytes lent
+  pub told_reading : {a : Result ℕ Refusal} → a ≡ reading bytes (length lent) → {left : List ℤ} → left ≡ left_by a bytes lent → told a left ≡ read_file bytes lent
   unfolding reading searched read_tests given found left_by verdict_of facets_in off_in handed_back
   told_reading {a} is {left} e =
       ap (told a) e ∙ ap answered is
       ∙ go (ill_sized bytes) refl (headed bytes) refl (ltb (length lent) (9 * count_in bytes)) refl (first_fault bytes) refl
     where
       go : (a : Bool) → ill_sized bytes ≡ a → (b : Bool) → headed bytes ≡ b → (c : Bool) → ltb (length lent) (9 * count_in bytes) ≡ c → (o : Option ℕ) → first_fault bytes ≡ o
-          → answered (cond a Length (cond (not b) Header (cond c Room (searched bytes o)))) ≡ read_file bytes lent
+          → answered (cond a (Err Length) (cond (not b) (Err Header) (cond c (Err Room) (searched bytes o)))) ≡ read_file bytes lent
       go true p b q c r o s = by (match_here 1 _ _ 0 (rw p))
       go false p false q c r o s = by (match_later 1 _ _ (rw p) ∙ match_here 2 _ _ 0 (rw q))
       go false p true q true r o s = by (match_later 1 _ _ (rw p) ∙ match_later 2 _ _ (rw q) ∙ match_here 3 _ _ 0 (rw r))
@@ -124,7 +120,7 @@ module _ (bytes : List ℕ) (lent : List ℤ) where
 
   -- ---- what is read: the files that are taken, and all their facets
 
-  pub facets_readable : (facets : ℕ) → reading bytes (length lent) ≡ Facets facets → Readable bytes (length lent) × (facets ≡ count_in bytes)
+  pub facets_readable : (facets : ℕ) → reading bytes (length lent) ≡ Ok facets → Readable bytes (length lent) × (facets ≡ count_in bytes)
   unfolding left_by verdict_of facets_in
   facets_readable facets e =
       let is = told_reading (sym e) refl in

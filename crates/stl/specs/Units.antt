@@ -1,5 +1,5 @@
 -- The units that a number says, and units that are written one by one.
-use Rattle.std.specs.Prelude.{◌≡◌, refl, Bool, true, false, List, ℕ, ◌+◌, ◌≤◌, ◌<◌, ℤ, pos, length, set}
+use Rattle.std.specs.Prelude.{◌≡◌, refl, Bool, true, false, List, ℕ, ◌+◌, ◌≤◌, ◌<◌, ℤ, pos, length, set, Result, Ok, Err}
 use Rattle.std.proofs.Common.{sym, ap, ◌∙◌, arith, length-set}
 use Rattle.rules.specs.Below.{gather, tabulate}
 use Rattle.rules.specs.Job.{written}
@@ -7,16 +7,15 @@ use Rattle.rules.specs.Stl.{bits_off, units_of}
 use Rattle.rules.specs.Laws.Written.{written_more}
 use Rattle.grid.specs.Named.{off_zero}
 use Rattle.grid.specs.Numbers.{read}
-use Rattle.grid.specs.declared.Number.{Number}
-use Rattle.grid.specs.declared.Number.TheVariants.{Units, Off}
+use Rattle.std.specs.Result.{result_unwrap_or}
+use Rattle.grid.specs.declared.OffGrid.{OffGrid}
 
 -- its units, or zero
-unfoldable pub units_said : Number → ℤ
-units_said (Units u) = u
-units_said (Off x bits facet) = pos 0
+abbrev pub units_said : Result ℤ OffGrid → ℤ
+units_said said = result_unwrap_or said (pos 0)
 
 pub units_said_lem : (bits facet : ℕ) → units_said (read bits facet) ≡ units_of bits
-unfolding read units_said
+unfolding read
 units_said_lem bits facet = go (bits_off bits) refl
   where
     go : (b : Bool) → bits_off bits ≡ b → units_said (read bits facet) ≡ units_of bits

@@ -19,14 +19,11 @@ pub fn put_front(file: &mut [u8], facets: u32)
     put_word(file, 80, facets);
 }
 
-// A normal of zeros.
-fn put_normal(file: &mut [u8], place: usize)
-    requires { place + 12 ≤ length file.old }
-    ensures { file.new ≡ sets file.old place (replicate 12 0) }
+fn put_zeros(file: &mut [u8], place: usize, count: usize)
+    requires { place + count ≤ length file.old }
+    ensures { file.new ≡ sets file.old place (replicate count 0) }
 {
-    put_word(file, place, 0);
-    put_word(file, place + 4, 0);
-    put_word(file, place + 8, 0);
+    file[place..place + count].fill(0);
 }
 
 fn put_corners(file: &mut [u8], place: usize, a: Corner, b: Corner, c: Corner)
@@ -38,20 +35,12 @@ fn put_corners(file: &mut [u8], place: usize, a: Corner, b: Corner, c: Corner)
     put_corner(file, place + 24, c);
 }
 
-// A u16 of zero.
-fn put_end(file: &mut [u8], place: usize)
-    requires { place + 2 ≤ length file.old }
-    ensures { file.new ≡ sets file.old place (replicate 2 0) }
-{
-    file[place] = 0;
-    file[place + 1] = 0;
-}
-
+// A normal of zeros, three corners, and a u16 of zero.
 pub fn put_facet(file: &mut [u8], place: usize, a: Corner, b: Corner, c: Corner)
     requires { (place + 50 ≤ length file.old) × Numbers a × Numbers b × Numbers c }
     ensures { file.new ≡ sets file.old place (facet_of a b c) }
 {
-    put_normal(file, place);
+    put_zeros(file, place, 12);
     put_corners(file, place + 12, a, b, c);
-    put_end(file, place + 48);
+    put_zeros(file, place + 48, 2);
 }

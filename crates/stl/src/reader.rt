@@ -1,30 +1,18 @@
 // The reader: a file becomes a list of units, nine for each facet.
 ghost use Rattle.std.specs.Prelude.{◌≡◌, true, false, ◌+◌, ◌*◌, ◌≤◌, ◌<◌, length};
-ghost use Rattle.std.specs.Float.{binary32};
-ghost use Rattle.std.specs.Float.Ieee.{of_bits};
 ghost use Rattle.rules.specs.Job.{written};
-ghost use Rattle.rules.specs.Stl.{most_facets, file_length, facet_at, count_in, ill_sized, blank, first_fault, unit_at, units_in, read_file};
+ghost use Rattle.rules.specs.Stl.{most_facets, file_length, facet_at, count_in, ill_sized, blank, bits_at, first_fault, unit_at, units_in, read_file};
 ghost use Rattle.grid.specs.Numbers.{read};
-ghost use Rattle.stl.specs.Faults.{fault_of, or_fault, corner_fault, facet_fault};
+ghost use Rattle.stl.specs.Faults.{facet_fault};
+ghost use Rattle.stl.specs.declared.reader.Refusal.TheVariants.{Off};
 ghost use Rattle.stl.specs.Reading.{told, searched, reading};
 
-use crate::corner::corner_at;
 use crate::header::is_headed;
-use grid::{Number, float_of, number_of};
+use grid::{OffGrid, float_of, number_of};
 use words::word_at;
 
-// What is wrong with a facet: nothing; its normal or its u16; or a number off the grid, which is handed back with its bits and its facet.
 #[derive(Clone, Copy)]
-pub(crate) enum Fault {
-    Sound,
-    NotZero,
-    Off(f32, u32, u32),
-}
-
-// So many facets, or the first refusal.
-#[derive(Clone, Copy)]
-pub enum Reading {
-    Facets(u32),
+pub enum Refusal {
     // Under 84 bytes, over 4,096 facets, or another length than they ask for.
     Length,
     Header,
@@ -32,39 +20,15 @@ pub enum Reading {
     Room,
     // A facet whose normal or u16 is not zero.
     NotZero(u32),
-    // A number off the grid as it stood, its bits, and its facet.
-    Off(f32, u32, u32),
+    Off(OffGrid),
 }
 
-fn number_fault(x: f32, bits: u32, facet: u32) -> Fault
-    requires { x ≡ of_bits binary32 bits }
-    ensures { result ≡ fault_of (read bits facet) }
-{
-    match number_of(x, bits, facet) {
-        Number::Units(_) => Fault::Sound,
-        Number::Off(y, b, f) => Fault::Off(y, b, f),
+impl From<OffGrid> for Refusal {
+    ghost from_gives = { λ off refusal. refusal ≡ Off off };
+
+    fn from(off: OffGrid) -> Refusal {
+        Refusal::Off(off)
     }
-}
-
-fn first_fault(a: Fault, b: Fault) -> Fault
-    ensures { result ≡ or_fault a b }
-{
-    match a {
-        Fault::Sound => b,
-        Fault::NotZero => Fault::NotZero,
-        Fault::Off(x, bits, facet) => Fault::Off(x, bits, facet),
-    }
-}
-
-fn corner_fault(file: &[u8], place: usize, facet: u32) -> Fault
-    requires { place + 12 ≤ length file.now }
-    ensures { result ≡ corner_fault file.now place facet }
-{
-    let c = corner_at(file, place);
-    let x = number_fault(c.x, word_at(file, place), facet);
-    let y = number_fault(c.y, word_at(file, place + 4), facet);
-    let z = number_fault(c.z, word_at(file, place + 8), facet);
-    first_fault(x, first_fault(y, z))
 }
 
 // The normal and the u16 are zero.
@@ -80,35 +44,37 @@ fn is_blank(file: &[u8], facet: usize) -> bool
         & (file[place + 49] == 0)
 }
 
-fn facet_fault(file: &[u8], facet: u32) -> Fault
+// The units of number k of a facet.
+fn number_at(file: &[u8], facet: u32, k: usize) -> Result<i16, OffGrid>
+    requires { (facet_at facet + 50 ≤ length file.now) × (facet < most_facets) × (k < 9) }
+    ensures { result ≡ read (bits_at file.now facet k) facet }
+{
+    let bits = word_at(file, 96 + 50 * (facet as usize) + 4 * k);
+    number_of(float_of(bits), bits, facet)
+}
+
+fn check_facet(file: &[u8], facet: u32) -> Result<(), Refusal>
     requires { (facet_at facet + 50 ≤ length file.now) × (facet < most_facets) }
     ensures { result ≡ facet_fault file.now facet }
 {
     if !is_blank(file, facet as usize) {
-        return Fault::NotZero;
+        return Err(Refusal::NotZero(facet));
     }
-    let place = 84 + 50 * (facet as usize);
-    let a = corner_fault(file, place + 12, facet);
-    let b = corner_fault(file, place + 24, facet);
-    let c = corner_fault(file, place + 36, facet);
-    first_fault(a, first_fault(b, c))
+    for k in 0..9 {
+        number_at(file, facet, k)?;
+    }
+    Ok(())
 }
 
 // Looks through the facets for the first at fault.
-fn look_through(file: &[u8], count: u32) -> Reading
+fn look_through(file: &[u8], count: u32) -> Result<u32, Refusal>
     requires { (file_length count ≤ length file.now) × (count ≤ most_facets) × (count ≡ count_in file.now) }
     ensures { result ≡ searched file.now (first_fault file.now) }
 {
-    let mut f = 0;
-    while f < count {
-        match facet_fault(file, f) {
-            Fault::Sound => {}
-            Fault::NotZero => return Reading::NotZero(f),
-            Fault::Off(x, bits, facet) => return Reading::Off(x, bits, facet),
-        }
-        f += 1;
+    for facet in 0..count {
+        check_facet(file, facet)?;
     }
-    Reading::Facets(count)
+    Ok(count)
 }
 
 fn is_ill_sized(file: &[u8]) -> bool
@@ -122,18 +88,18 @@ fn is_ill_sized(file: &[u8]) -> bool
 }
 
 // What is answered to the file and room for so many numbers.
-fn judge(file: &[u8], room: usize) -> Reading
+fn judge(file: &[u8], room: usize) -> Result<u32, Refusal>
     ensures { result ≡ reading file.now room }
 {
     if is_ill_sized(file) {
-        return Reading::Length;
+        return Err(Refusal::Length);
     }
     if !is_headed(file) {
-        return Reading::Header;
+        return Err(Refusal::Header);
     }
     let count = word_at(file, 80);
     if room < 9 * (count as usize) {
-        return Reading::Room;
+        return Err(Refusal::Room);
     }
     look_through(file, count)
 }
@@ -143,37 +109,23 @@ fn unit_at(file: &[u8], i: usize) -> i16
     requires { (i < 9 * most_facets) × (file_length (count_in file.now) ≤ length file.now) × (i < 9 * count_in file.now) }
     ensures { result ≡ unit_at file.now i }
 {
-    let facet = i / 9;
-    let bits = word_at(file, 96 + 50 * facet + 4 * (i % 9));
-    match number_of(float_of(bits), bits, facet as u32) {
-        Number::Units(u) => u,
-        Number::Off(_, _, _) => 0,
-    }
+    number_at(file, (i / 9) as u32, i % 9).unwrap_or(0)
 }
 
 fn put_units(file: &[u8], units: &mut [i16], count: usize)
     requires { (file_length count ≤ length file.now) × (count ≤ most_facets) × (count ≡ count_in file.now) × (9 * count ≤ length units.old) }
     ensures { units.new ≡ written (units_in file.now) units.old }
 {
-    let mut i = 0;
-    while i < 9 * count {
+    for i in 0..9 * count {
         units[i] = unit_at(file, i);
-        i += 1;
     }
 }
 
-// Reads the file to the front of the units.
-pub fn read_file(file: &[u8], units: &mut [i16]) -> Reading
+// Reads the file to the front of the units, and says how many facets it has.
+pub fn read_file(file: &[u8], units: &mut [i16]) -> Result<u32, Refusal>
     ensures { told result units.new ≡ read_file file.now units.old }
 {
-    let answer = judge(file, units.len());
-    match answer {
-        Reading::Facets(count) => put_units(file, units, count as usize),
-        Reading::Length => {}
-        Reading::Header => {}
-        Reading::Room => {}
-        Reading::NotZero(_) => {}
-        Reading::Off(_, _, _) => {}
-    }
-    answer
+    let count = judge(file, units.len())?;
+    put_units(file, units, count as usize);
+    Ok(count)
 }

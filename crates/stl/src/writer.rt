@@ -5,18 +5,15 @@ ghost use Rattle.rules.specs.Below.{lowest};
 ghost use Rattle.rules.specs.Points.{in_range};
 ghost use Rattle.rules.specs.Job.{written};
 ghost use Rattle.rules.specs.Stl.{facet_at, facet_bytes, file_length, facets_of, file_of, most_facets, write_facets};
-ghost use Rattle.values.specs.Search.{place_of};
+ghost use Rattle.values.specs.Places.{place_of};
 ghost use Rattle.stl.specs.Corners.{corner_in};
 ghost use Rattle.stl.specs.Writing.{AllIn, stray_in, told, writing};
 
 use crate::corner::{Corner, corner_of};
 use crate::facet::{put_facet, put_front};
-use values::Found;
 
-// A file, or the first refusal.
 #[derive(Clone, Copy)]
-pub enum Writing {
-    Done,
+pub enum Refusal {
     // Not whole facets, or over 4,096 of them.
     Facets,
     // A number outside -1023 to 1023, and its index.
@@ -49,13 +46,12 @@ fn put_file(file: &mut [u8], units: &[i16])
 {
     let facets = units.len() / 9;
     put_front(file, facets as u32);
-    let mut f = 0;
-    while f < facets {
+    for f in 0..facets {
         put_facet_of(file, units, f);
-        f += 1;
     }
 }
 
+// By `contains` of a range it would be no plainer.
 fn is_in_range(units: i16) -> bool
     ensures { result ≡ in_range units }
 {
@@ -63,50 +59,34 @@ fn is_in_range(units: i16) -> bool
 }
 
 // The first number out of range.
-fn first_stray(units: &[i16]) -> Found
+fn first_stray(units: &[i16]) -> Option<usize>
     ensures { place_of result ≡ lowest (length units.now) (stray_in units.now) }
 {
-    let mut k = 0;
-    while k < units.len() {
-        if !is_in_range(units[k]) {
-            return Found::At(k);
-        }
-        k += 1;
-    }
-    Found::Nowhere
+    (0..units.len()).find(|&k| !is_in_range(units[k]))
 }
 
 // What is answered to the list and so much room.
-fn judge(units: &[i16], room: usize) -> Writing
+fn judge(units: &[i16], room: usize) -> Result<(), Refusal>
     ensures { result ≡ writing units.now room }
 {
     let facets = units.len() / 9;
-    if units.len() % 9 != 0 {
-        return Writing::Facets;
+    if units.len() % 9 != 0 || facets > 4096 {
+        return Err(Refusal::Facets);
     }
-    if facets > 4096 {
-        return Writing::Facets;
-    }
-    match first_stray(units) {
-        Found::At(k) => return Writing::Number(k),
-        Found::Nowhere => {}
+    if let Some(k) = first_stray(units) {
+        return Err(Refusal::Number(k));
     }
     if room < 84 + 50 * facets {
-        return Writing::Room;
+        return Err(Refusal::Room);
     }
-    Writing::Done
+    Ok(())
 }
 
 // Writes the list to the front of the file.
-pub fn write_facets(units: &[i16], file: &mut [u8]) -> Writing
+pub fn write_facets(units: &[i16], file: &mut [u8]) -> Result<(), Refusal>
     ensures { told result file.new ≡ write_facets units.now file.old }
 {
-    let answer = judge(units, file.len());
-    match answer {
-        Writing::Done => put_file(file, units),
-        Writing::Facets => {}
-        Writing::Number(_) => {}
-        Writing::Room => {}
-    }
-    answer
+    judge(units, file.len())?;
+    put_file(file, units);
+    Ok(())
 }

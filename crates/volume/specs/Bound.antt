@@ -1,10 +1,10 @@
 -- How far a whole number lies from zero. What is computed with such numbers fits an i64, so it is read back as it was meant.
-use Rattle.std.specs.Prelude.{◌≡◌, refl, Bool, true, false, cond, ℕ, zero, suc, ◌+◌, ◌*◌, ◌-◌, ◌^◌, ◌≤◌, ◌<◌, T, ltb, leb, ℤ, pos, negsuc, neg_ℤ, nat_abs, ◌+ℤ◌, ◌-ℤ◌, ◌*ℤ◌}
-use Rattle.std.proofs.Common.{◌∙◌, mul-le-mul, le_refl, ltb→lt, SFits, to_z, of_z, to_z-of_z}
+use Rattle.std.specs.Prelude.{◌≡◌, refl, Bool, true, false, not, ◌&&◌, cond, ℕ, zero, suc, ◌+◌, ◌*◌, ◌-◌, ◌^◌, ◌≤◌, ◌<◌, T, ltb, leb, ℤ, pos, negsuc, neg_ℤ, nat_abs, ◌+ℤ◌, ◌-ℤ◌, ◌*ℤ◌}
+use Rattle.std.proofs.Common.{◌∙◌, mul-le-mul, le_refl, ltb→lt, ltb-true, ne_eqb, eqb, lt_irrefl, int_eq, is_eq, is_le, leb-false, Less, Greater, Equal, SFits, to_z, of_z, to_z-of_z}
 use native.Mathlib.Omega.{arith}
 use Rattle.std.proofs.Math.IntN.{sub_ℕ}
-use Rattle.std.specs.Int.Signed.{mag, le_z}
-use Rattle.std.specs.Int.{w64}
+use Rattle.std.specs.Int.Signed.{mag, le_z, lt_z}
+use Rattle.std.specs.Int.{w16, w64}
 use borrow.Author.Tests.{ltb-true, lt-ltb, le-ltb, leb-true}
 use Rattle.rules.specs.Points as R
 use Rattle.rules.specs.Laws.Truth.{and_first, and_second}
@@ -122,28 +122,55 @@ module _ {j k : ℕ} {m n v w : ℤ} (p : Exact j m v) (q : Exact k n w) where
   pub mul_held : Room (j * k) → Exact (j * k) (to_z w64 (of_z w64 (m *ℤ n))) (v *ℤ w)
   mul_held = again (record { is = rw (p.is, q.is); within = within_mul p.within q.within })
 
--- ---- two bytes as an i16
+-- ---- the sixteen bits of an i16
 
--- a u64 below 2 ^ 63 is read as it is
-small : (w : ℕ) → w < 2 ^ 63 → to_z w64 w ≡ pos w
-small w l = to_z-of_z {w = w64} {z = pos w} (record { sfits = l })
+of_below : (w : ℕ) → w < 65536 → negsuc (65536 - suc w) ≡ sub_ℕ w 65536
+of_below w l = rw (lt-ltb w 65536 l) refl
 
-module _ (low high : ℕ) (l : low < 256) (h : high < 256) where
-  pub word_less : Within read_most (to_z w64 (low + 256 * high) -ℤ pos 65536)
-  word_less =
-      rw (small (low + 256 * high) (omega arith))
-      (within_sub {j = 65536} {k = 65536} {x = pos (low + 256 * high)} {y = pos 65536} (record { within = omega arith }) (record { within = le_refl 65536 }))
+pub signed_read : (w : ℕ) → w < 65536 → Exact read_most (to_z w16 w) (R.signed w)
+unfolding R.signed
+signed_read w l = go (ltb w 32768) refl
+  where
+    go : (b : Bool) → ltb w 32768 ≡ b → Exact read_most (to_z w16 w) (cond b (pos w) (pos w -ℤ pos 65536))
+    go true e = rw (e) (record { is = refl; within = record { within = omega arith } })
+    go false e = rw (e) (record { is = of_below w l; within = record { within = omega arith } })
 
-  pub below_half : low + 256 * high < 32768 → Exact read_most (to_z w64 (low + 256 * high)) (R.signed (low + 256 * high))
-  unfolding R.signed
-  below_half m = rw (small (low + 256 * high) (omega arith), lt-ltb (low + 256 * high) 32768 m) (record { is = refl; within = record { within = omega arith } })
+-- ---- zero
 
-  pub from_half : 32768 ≤ low + 256 * high
-      → Exact read_most (to_z w64 (of_z w64 (to_z w64 (low + 256 * high) -ℤ pos 65536))) (R.signed (low + 256 * high))
-  unfolding R.signed
-  from_half m = again (record { is = rw (small (low + 256 * high) (omega arith), le-ltb (low + 256 * high) 32768 m); within = word_less }) tt
+le_ordered : (m n : ℕ) → is_le (cond (ltb m n) Less (cond (ltb n m) Greater Equal)) ≡ leb m n
+le_ordered m n = go (leb m n) refl
+  where
+    ended : (a : Bool) → is_le (cond a Less Equal) ≡ true
+    ended true = refl
+    ended false = refl
+
+    go : (b : Bool) → leb m n ≡ b → is_le (cond (ltb m n) Less (cond (ltb n m) Greater Equal)) ≡ b
+    go true e = rw (le-ltb n m (leb-true m n e)) (ended (ltb m n))
+    go false e = rw (le-ltb m n (omega (arith, leb-false m n e)), lt-ltb n m (leb-false m n e)) refl
+
+pub zero_stored : (z : ℤ) → SFits w64 z → eqb (of_z w64 z) 0 ≡ R.is_zero z
+unfolding R.is_zero R.below_zero R.above_zero
+zero_stored (pos zero) f = refl
+zero_stored (pos (suc n)) f = rw (ne_eqb (suc n) 0 (λ e. lt_irrefl 0 (omega (arith, e))), lt-ltb 0 (suc n) (omega arith), le-ltb (suc n) 0 (omega arith)) refl
+zero_stored (negsuc n) f = ne_eqb (of_z w64 (negsuc n)) 0 (λ e. lt_irrefl 0 (omega (arith, f.sfits, e)))
+
+pub zero_equal : (z : ℤ) → int_eq z (pos 0) ≡ R.is_zero z
+unfolding R.is_zero R.below_zero R.above_zero
+zero_equal z = by (lt_z z (pos 0)) (lt_z (pos 0) z)
+  where
+    by : (a b : Bool) → is_eq (cond a Less (cond b Greater Equal)) ≡ (not a && not b)
+    by true b = refl
+    by false true = refl
+    by false false = refl
 
 -- ---- in range
+
+-- the order of two numbers, as a comparison gives it
+pub le_told : (a b : ℤ) → is_le (cond (lt_z a b) Less (cond (lt_z b a) Greater Equal)) ≡ le_z a b
+le_told (pos m) (pos n) = le_ordered m n
+le_told (pos m) (negsuc n) = refl
+le_told (negsuc m) (pos n) = refl
+le_told (negsuc m) (negsuc n) = le_ordered n m
 
 pub in_range_lem : (z : ℤ) → R.in_range z ≡ true → Within grid_most z
 unfolding R.in_range

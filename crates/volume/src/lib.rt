@@ -7,31 +7,22 @@ ghost use Rattle.rules.specs.Job.{most_ids};
 ghost use Rattle.volume.specs.Bound.{Within, Exact, read_most, grid_most, apart_most, minor_most, product_most};
 ghost use Rattle.volume.specs.Meant.{meant, Near};
 
-#[derive(Clone, Copy)]
+#[derive(Clone, Copy, PartialEq)]
 pub struct Point {
     pub x: i64,
     pub y: i64,
     pub z: i64,
 }
 
-// ---- points in bytes
+const ORIGIN: Point = Point { x: 0, y: 0, z: 0 };
 
-fn signed(low: u8, high: u8) -> i64
-    ensures { Exact read_most result (R.signed (low + 256 * high)) }
-{
-    let w = (low as u64) + 256 * (high as u64);
-    if w < 32768 {
-        w as i64
-    } else {
-        (w as i64) - 65536
-    }
-}
+// ---- points in bytes
 
 fn coordinate_at(bytes: &[u8], place: usize) -> i64
     requires { place + 2 ≤ length bytes.now }
     ensures { Exact read_most result (R.coordinate bytes.now place) }
 {
-    signed(bytes[place], bytes[place + 1])
+    i64::from(i16::from_le_bytes([bytes[place], bytes[place + 1]]))
 }
 
 // The point of id v.
@@ -52,7 +43,7 @@ pub fn point_at(bytes: &[u8], v: usize) -> Point
 fn in_range(z: i64) -> bool
     ensures { result ≡ R.in_range z }
 {
-    (-1023 <= z) & (z <= 1023)
+    (-1023..=1023).contains(&z)
 }
 
 pub fn on_grid(p: Point) -> bool
@@ -64,9 +55,10 @@ pub fn on_grid(p: Point) -> bool
 pub fn is_zero(z: i64) -> bool
     ensures { result ≡ R.is_zero z }
 {
-    !(z < 0) & !(0 < z)
+    z == 0
 }
 
+// By `signum` this would need a test for zero besides, and be no plainer.
 pub fn same_sign(m: i64, n: i64) -> bool
     ensures { result ≡ R.same_sign m n }
 {
@@ -77,7 +69,7 @@ pub fn same_sign(m: i64, n: i64) -> bool
 pub fn at_origin(p: Point) -> bool
     ensures { result ≡ R.at_origin (meant p) }
 {
-    is_zero(p.x) & is_zero(p.y) & is_zero(p.z)
+    p == ORIGIN
 }
 
 // ---- the product. Numbers come first, and carry the ranges; points then only call these.

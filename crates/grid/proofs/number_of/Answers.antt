@@ -4,7 +4,8 @@ use Rattle.std.specs.Float.Ieee.{of_bits, neg, le, mul, to_signed}
 use Rattle.grid.specs.Numbers.{read}
 use Rattle.grid.specs.Steps.{small, reads_units, low_off, high_off, other_off, grid_fits, grid_wide, grid_cast}
 use Rattle.grid.specs.Sweep.{times}
-use Rattle.grid.specs.declared.Number.TheVariants.{Units, Off}
+use Rattle.grid.specs.declared.OffGrid.{OffGrid}
+use Rattle.std.specs.Prelude.{Result, Ok, Err}
 use Rattle.rules.specs.Points.{in_range}
 use Rattle.rules.specs.Stl.{bits_of}
 use Rattle.grid.proofs.number_of.Goals as goal
@@ -15,8 +16,11 @@ unfolding times
 product x bits e = ap (λ (f : Float). mul binary32 f (of_bits binary32 0x4180_0000)) e
 
 -- off the grid, as it stood
-stood : (x : Float) (bits facet : ℕ) → x ≡ of_bits binary32 bits → read bits facet ≡ Off (of_bits binary32 bits) bits facet → Off x bits facet ≡ read bits facet
-stood x bits facet e off = ap (λ (f : Float). Off f bits facet) e ∙ sym off
+abbrev found : Float → ℕ → ℕ → Result ℤ OffGrid
+found x bits facet = Err (record { number = x; bits = bits; facet = facet })
+
+stood : (x : Float) (bits facet : ℕ) → x ≡ of_bits binary32 bits → read bits facet ≡ found (of_bits binary32 bits) bits facet → found x bits facet ≡ read bits facet
+stood x bits facet e off = ap (λ (f : Float). found f bits facet) e ∙ sym off
 
 -- the whole part of a number that passes both tests is on the grid
 given : (y : Float) (u : ℤ) → le (neg (of_bits binary32 0x447f_c000)) y ≡ true → le y (of_bits binary32 0x447f_c000) ≡ true → u ≡ to_signed 63 y → in_range u ≡ true
@@ -44,7 +48,7 @@ pub returns-then-bits_of-bits : goal.returns-then-bits_of-bits
 returns-then-bits_of-bits c =
     let u = c.truncating_f32_to_i64-units.result in
     let on = given _ u c.if-y.true c.if-y-2.true c.truncating_f32_to_i64-units.ensures in
-    ap Units (grid_cast u on) ∙ sym (reads_units c.args.bits c.args.facet u (on, sym c.if-bits_of-bits.true ∙ (c.bits_of.ensures ∙ ap bits_of (grid_cast u on))))
+    ap Ok (grid_cast u on) ∙ sym (reads_units c.args.bits c.args.facet u (on, sym c.if-bits_of-bits.true ∙ (c.bits_of.ensures ∙ ap bits_of (grid_cast u on))))
 
 pub returns-else-bits_of-bits : goal.returns-else-bits_of-bits
 returns-else-bits_of-bits c =

@@ -1,7 +1,5 @@
-use Rattle.rules.specs.Points as R
-use Rattle.volume.specs.Bound.{whole}
+use Rattle.volume.specs.Bound.{zero_stored}
 use Rattle.volume.proofs.is_zero.Goals as goal
 
 pub returns : goal.returns
-unfolding R.is_zero R.below_zero R.above_zero
-returns c = rw (whole c.ranges.z)
+returns c = zero_stored c.args.z c.ranges.z

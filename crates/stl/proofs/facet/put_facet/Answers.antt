@@ -9,6 +9,6 @@ returns c =
     let a = c.args.a in
     let b = c.args.b in
     let d = c.args.c in
-    c.put_end.ensures
-    ∙ ap (λ (l : List ℕ). sets l (p + 48) (replicate 2 0)) (c.put_corners.ensures ∙ ap (λ (l : List ℕ). sets l (p + 12) (corners_bytes a b d)) c.put_normal.ensures)
+    c.put_zeros-2.ensures
+    ∙ ap (λ (l : List ℕ). sets l (p + 48) (replicate 2 0)) (c.put_corners.ensures ∙ ap (λ (l : List ℕ). sets l (p + 12) (corners_bytes a b d)) c.put_zeros.ensures)
     ∙ facet_put c.args.file.now p a b d
