@@ -15,13 +15,9 @@ fn put_word(word: &[u8], out: &mut [u8], at: usize) -> usize
     requires { at + length word.now ≤ length out.old }
     ensures { Put word.now out.old at out.new result }
 {
-    let mut next = at;
-    let mut i = 0;
-    while i < word.len() {
-        next = put_byte(word[i], out, next);
-        i += 1;
-    }
-    next
+    let behind = at + word.len();
+    out[at..behind].copy_from_slice(word);
+    behind
 }
 
 pub(crate) fn put_number(n: usize, out: &mut [u8], at: usize) -> usize
@@ -49,10 +45,8 @@ fn put_numbers(numbers: &[usize], out: &mut [u8], at: usize) -> usize
     ensures { Put (spaced numbers.now) out.old at out.new result }
 {
     let mut next = at;
-    let mut i = 0;
-    while i < numbers.len() {
-        next = put_spaced(numbers[i], out, next);
-        i += 1;
+    for n in numbers {
+        next = put_spaced(*n, out, next);
     }
     next
 }
