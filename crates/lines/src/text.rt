@@ -20,6 +20,7 @@ fn put_word(word: &[u8], out: &mut [u8], at: usize) -> usize
     behind
 }
 
+// Digit by digit: of `write!` into a slice std says how far it goes, and nothing of what stands there, so `Put` would not follow.
 pub(crate) fn put_number(n: usize, out: &mut [u8], at: usize) -> usize
     requires { at + length (decimal n) ≤ length out.old }
     ensures { Put (decimal n) out.old at out.new result }
