@@ -3,5 +3,4 @@ use Rattle.track_stl.proofs.corners.corner_in.Goals as goal
 
 pub returns : goal.returns
 unfolding id_corner
-returns c =
-    c.corner_at.ensures
+returns c = c.corner_at.ensures
