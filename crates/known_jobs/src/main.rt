@@ -6,7 +6,7 @@ mod print;
 
 ghost use Rattle.std.specs.Prelude.{◌≤◌};
 
-use print::{print_bytes, print_outcome, print_words};
+use print::{print_numbers, print_outcome};
 use std::io;
 use track::run;
 
@@ -63,10 +63,10 @@ fn show<R: Print>(
 ) -> io::Result<()> {
     let r = run(job, answers, final_marks, triangles, work);
     print_outcome(rt, name, r)?;
-    print_bytes(rt, b"answers", answers)?;
-    print_bytes(rt, b"final marks", final_marks)?;
-    print_words(rt, b"triangles", triangles)?;
-    print_words(rt, b"work", work)
+    print_numbers(rt, b"answers", answers)?;
+    print_numbers(rt, b"final marks", final_marks)?;
+    print_numbers(rt, b"triangles", triangles)?;
+    print_numbers(rt, b"work", work)
 }
 
 // Lends so many answers, final marks, triangle words and work words.

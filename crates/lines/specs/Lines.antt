@@ -1,23 +1,21 @@
 -- Words and numbers, put in turns.
-use Rattle.std.specs.Prelude.{◌≡◌, refl, List, [], ◌∷◌, ◌++◌, ℕ, ◌+◌, ◌/◌, ◌%◌, ◌≤◌, ◌<◌, length, get_or, take}
-use Rattle.std.proofs.Common.{sym, ap, ◌∙◌, append_assoc, add-one, arith, length-append, length-take-le, take-suc}
+use Rattle.std.specs.Prelude.{◌≡◌, refl, List, [], ◌∷◌, ◌++◌, ℕ, ◌+◌, ◌-◌, ◌/◌, ◌%◌, ◌≤◌, ◌<◌, length, take, drop}
+use Rattle.std.proofs.Common.{sym, ap, ◌∙◌, append_assoc, arith, drop-drop, length-append}
+use Rattle.std.proofs.lemmas.List.Edits.{sets-eq}
 use Rattle.std.proofs.Math.Seq.{take-length}
+use borrow.Rule.Slice.PartMut.{put_mid}
 use Rattle.lines.specs.Listing.{decimal, spaced, line}
 use Rattle.lines.specs.Decimal.{decimal_one, decimal_more}
-use Rattle.lines.specs.Put.{Put, put_more, put_kept, Turns, turns_begin, one_turn, turns_end}
+use Rattle.lines.specs.Put.{Put, put_more, put_kept, Turns, turns_begin, turns_end}
 
--- a byte of a word at each turn
-abbrev pub WordTurns : List ℕ → List ℕ → ℕ → List ℕ → ℕ → ℕ → Type 0
-WordTurns word d at d' n i = Turns (λ k. take k word) (length word) d at d' n i
-
-pub word_room : {word d d' : List ℕ} {at n i : ℕ} → WordTurns word d at d' n i → i < length word → at + length word ≤ length d → n < length d'
-word_room {word} {i = i} t l room = omega (arith, t.put.behind, put_kept t.put, length-take-le i word t.upto)
-
-pub word_turn : {word d d' d'' : List ℕ} {at n m i : ℕ} → WordTurns word d at d' n i → i < length word → Put (get_or word i 0 ∷ []) d' n d'' m → WordTurns word d at d'' m (i + 1)
-word_turn {word} {i = i} t l q = one_turn t l (rw (add-one i) (take-suc word i 0 l)) q
-
-pub word_ends : {word d d' : List ℕ} {at n i : ℕ} → WordTurns word d at d' n i → length word ≤ i → Put word d at d' n
-word_ends {word} t l = rw (take-length word) at (turns_end t l)
+-- a word that is copied
+pub word_put : (word d : List ℕ) {copied : List ℕ} (at : ℕ) → copied ≡ word → at + length word ≤ length d → Put word d at (put_mid at (at + length word - at) d copied) (at + length word)
+word_put word d at e room = record {
+  behind = refl;
+  is =
+      let rest : drop (at + length word - at) (drop at d) ≡ drop (at + length word) d = drop-drop (at + length word - at) at d ∙ ap (λ (n : ℕ). drop n d) {x = at + (at + length word - at)} {y = at + length word} (omega arith) in
+      rw e (ap (λ (behind : List ℕ). take at d ++ (word ++ behind)) rest ∙ sym (append_assoc (take at d) word (drop (at + length word) d)) ∙ sym (sets-eq word d at room));
+}
 
 -- ---- a number, by its last digit and the number that the others are
 

@@ -20,10 +20,8 @@ fn put_answers(answers: &[u8], count: usize, out: &mut [u8], at: usize) -> usize
     ensures { Put (answer_lines answers.now count) out.old at out.new result × (result ≤ at + 12 * count) }
 {
     let mut next = at;
-    let mut k = 0;
-    while k < count {
+    for k in 0..count {
         next = put_answer(answers, k, out, next);
-        k += 1;
     }
     next
 }
@@ -52,10 +50,8 @@ fn put_triangles(triangles: &[u32], count: usize, out: &mut [u8], at: usize) -> 
     ensures { Put (triangle_lines triangles.now count) out.old at out.new result × (result ≤ at + 35 * count) }
 {
     let mut next = at;
-    let mut k = 0;
-    while k < count {
+    for k in 0..count {
         next = put_triangle(triangles, k, out, next);
-        k += 1;
     }
     next
 }

@@ -13,11 +13,7 @@ pub const FACETS_ROOM: usize = 258048;
 fn size_of(units: i16) -> usize
     ensures { (result ≡ nat_abs units) × (result ≤ 32768) }
 {
-    let wide = units as i64;
-    if wide < 0 {
-        return (-wide) as usize;
-    }
-    wide as usize
+    units.unsigned_abs() as usize
 }
 
 fn put_whole(units: i16, out: &mut [u8], at: usize) -> usize
@@ -53,10 +49,8 @@ pub fn list_facets(units: &[i16], out: &mut [u8]) -> usize
     ensures { (result ≡ length (facets_text units.now)) × (out.new ≡ written (facets_text units.now) out.old) }
 {
     let mut next = 0;
-    let mut k = 0;
-    while k < units.len() {
+    for k in 0..units.len() {
         next = put_unit(units, k, out, next);
-        k += 1;
     }
     next
 }

@@ -15,15 +15,12 @@ fn put_word(word: &[u8], out: &mut [u8], at: usize) -> usize
     requires { at + length word.now ≤ length out.old }
     ensures { Put word.now out.old at out.new result }
 {
-    let mut next = at;
-    let mut i = 0;
-    while i < word.len() {
-        next = put_byte(word[i], out, next);
-        i += 1;
-    }
-    next
+    let behind = at + word.len();
+    out[at..behind].copy_from_slice(word);
+    behind
 }
 
+// Digit by digit: of `write!` into a slice std says how far it goes, and nothing of what stands there, so `Put` would not follow.
 pub(crate) fn put_number(n: usize, out: &mut [u8], at: usize) -> usize
     requires { at + length (decimal n) ≤ length out.old }
     ensures { Put (decimal n) out.old at out.new result }
@@ -49,10 +46,8 @@ fn put_numbers(numbers: &[usize], out: &mut [u8], at: usize) -> usize
     ensures { Put (spaced numbers.now) out.old at out.new result }
 {
     let mut next = at;
-    let mut i = 0;
-    while i < numbers.len() {
-        next = put_spaced(numbers[i], out, next);
-        i += 1;
+    for n in numbers {
+        next = put_spaced(*n, out, next);
     }
     next
 }

@@ -12,13 +12,15 @@ use streams::output::{print_whole, tell};
 // Started with an argument, the program tells when the listing is printed whole.
 fn main(rt: HostRuntime) {
     let mut job = [0u8; 65536];
-    let input = read_input(&mut rt.stdin(), &mut job);
-    if let Some(error) = input.failed {
-        fail(&rt, b"listing: the job could not be read", error);
-        return;
-    }
+    let count = match read_input(&mut rt.stdin(), &mut job) {
+        Ok(count) => count,
+        Err(error) => {
+            fail(&rt, b"listing: the job could not be read", error);
+            return;
+        }
+    };
     let mut out = [0u8; ROOM];
-    let length = list_job(&job[..input.count], &mut out);
+    let length = list_job(&job[..count], &mut out);
     let printed = print_whole(
         &rt,
         &out[..length],

@@ -1,5 +1,5 @@
 // Standard output: a whole text, or none and a message; and the line on descriptor 3.
-ghost use Rattle.std.specs.Prelude.{◌≡◌, ◌≢◌, ◌≤◌, length, None};
+ghost use Rattle.std.specs.Prelude.{◌≡◌, ◌≢◌, ◌≤◌, length, IfOk, IfErr};
 
 use crate::failure::fail;
 use std::fs::{OpenFile, OpenOptions};
@@ -16,54 +16,36 @@ const OUTPUT_INFO: &str = "/proc/self/fdinfo/1";
 // Where `tell` writes.
 const TOLD: &str = "/proc/self/fd/3";
 
-// How many bytes of a text went out, and why no more did, if a write failed.
+// A text of which not all went out: how many bytes did, and why no more.
 #[derive(Clone, Copy)]
-struct Printed {
-    count: usize,
-    failed: Option<io::Error>,
+struct Cut {
+    printed: usize,
+    error: io::Error,
 }
 
 // One write of a part of the text, which is not empty: none of its bytes went out where it failed.
-fn print_some<W: Write>(out: &mut W, part: &[u8]) -> Printed
-    ensures in_part { result.count ≤ length part.now }
-    ensures failed { result.count ≡ 0 → result.failed ≢ None }
+fn print_some<W: Write>(out: &mut W, part: &[u8]) -> io::Result<usize>
+    ensures in_part { IfOk result (λ count. count ≤ length part.now) }
+    ensures failed { IfOk result (λ count. count ≢ 0) }
 {
     match out.write(part) {
-        Ok(0) => Printed {
-            count: 0,
-            failed: Some(io::Error::from(ErrorKind::WriteZero)),
-        },
-        Ok(count) => Printed {
-            count,
-            failed: None,
-        },
-        Err(error) => Printed {
-            count: 0,
-            failed: Some(error),
-        },
+        Ok(0) => Err(io::Error::from(ErrorKind::WriteZero)),
+        written => written,
     }
 }
 
-// Prints the text, and answers how many of its bytes went out before a write failed.
-fn print<W: Write>(out: &mut W, text: &[u8]) -> Printed
-    ensures in_text { result.count ≤ length text.now }
-    ensures whole { result.failed ≡ None → result.count ≡ length text.now }
+// Prints the text, and answers how many bytes it has.
+fn print<W: Write>(out: &mut W, text: &[u8]) -> Result<usize, Cut>
+    ensures in_text { IfErr result (λ cut. cut.printed ≤ length text.now) }
+    ensures whole { IfOk result (λ count. count ≡ length text.now) }
 {
     let mut at = 0;
+    // It goes on by so many bytes as went out, and not by one; std's `write_all` does not tell how many did before a write failed.
     while at < text.len() {
-        let more = print_some(out, &text[at..]);
-        if more.count == 0 {
-            return Printed {
-                count: at,
-                failed: more.failed,
-            };
-        }
-        at += more.count;
+        let count = print_some(out, &text[at..]).map_err(|error| Cut { printed: at, error })?;
+        at += count;
     }
-    Printed {
-        count: at,
-        failed: None,
-    }
+    Ok(at)
 }
 
 // Whether nothing keeps standard output from being written: a closed one has no copy.
@@ -119,33 +101,24 @@ fn take_back<R: Files>(rt: &R, printed: u64) -> io::Result<()> {
     }
 }
 
-// Prints the text; with an error, so many of its bytes went out before.
-fn print_settled(rt: &HostRuntime, text: &[u8]) -> Printed {
-    if let Err(error) = check_open(rt) {
-        return Printed {
-            count: 0,
-            failed: Some(error),
-        };
+// Prints the text, and waits for the disk where standard output is a file.
+fn print_settled(rt: &HostRuntime, text: &[u8]) -> Result<(), Cut> {
+    check_open(rt).map_err(|error| Cut { printed: 0, error })?;
+    let printed = print(&mut rt.stdout(), text)?;
+    if is_file(rt) {
+        settle(rt).map_err(|error| Cut { printed, error })?;
     }
-    let printed = print(&mut rt.stdout(), text);
-    if printed.failed.is_some() || !is_file(rt) {
-        return printed;
-    }
-    Printed {
-        count: printed.count,
-        failed: settle(rt).err(),
-    }
+    Ok(())
 }
 
 // Prints the text and answers true, or says the failure, with the reason, and takes back what was printed of it.
 pub fn print_whole(rt: &HostRuntime, text: &[u8], failure: &[u8]) -> bool {
-    let printed = print_settled(rt, text);
-    let Some(error) = printed.failed else {
+    let Err(cut) = print_settled(rt, text) else {
         return true;
     };
-    fail(rt, failure, error);
+    fail(rt, failure, cut.error);
     if is_file(rt) {
-        let _ = take_back(rt, printed.count as u64);
+        let _ = take_back(rt, cut.printed as u64);
     }
     false
 }

@@ -1,6 +1,6 @@
 -- The run in stages: header and room, table, marks, points, proposals. Each says what is still to be decided when it begins.
-use Rattle.std.specs.Prelude.{◌≡◌, refl, ◌≢◌, Bool, true, false, ◌||◌, cond, ℕ, ◌+◌, ◌*◌, ◌/◌, ◌≤◌, eqb, leb, length, take, replicate}
-use Rattle.std.proofs.Common.{sym, ◌∙◌, subst, ⊎_elim, le_refl, arith, lit<, lit≤}
+use Rattle.std.specs.Prelude.{◌≡◌, refl, ◌≢◌, Bool, true, false, ◌||◌, cond, ℕ, ◌*◌, ◌/◌, ◌≤◌, eqb, leb, length, take, replicate}
+use Rattle.std.proofs.Common.{sym, ◌∙◌, ⊎_elim, le_refl, arith, lit<, lit≤}
 use Rattle.std.proofs.Math.Path.{ap, ap₂}
 use Rattle.std.proofs.Math.Option.{Option, some, none}
 use mathlib.Core.List.{List, ◌++◌, flatten}
@@ -222,13 +222,6 @@ front_decides h tests code l job fits answers final triangles work room =
 front_written : (xs d : List ℕ) {n : ℕ} → n ≡ length xs → take n (written xs d) ≡ xs
 unfolding written
 front_written xs d e = rw e (take-append_seam xs (drop (length xs) d))
-
-pub front_length : (xs d : List ℕ) {whole : List ℕ} → whole ≡ written xs d → length xs ≡ length (take (length xs) whole)
-front_length xs d e = rw e (ap length (sym (front_written xs d refl)))
-
--- growing may rest on it
-pub front_area : {rows work marks : List ℕ} {ids : ℕ} → Area rows work marks ids → (final₀ : List ℕ) {whole : List ℕ} → whole ≡ written marks final₀ → Area rows work (take (length marks) whole) ids
-front_area {rows} {work} {marks} {ids} a final₀ copied = subst (λ (m : List ℕ). Area rows work m ids) (sym (rw copied (front_written marks final₀ refl))) a
 
 module _ (t : Table) (marks final₀ : List ℕ) (ps : List Proposal) {whole : List ℕ} (copied : whole ≡ written marks final₀) where
   front_is : take (length marks) whole ≡ marks

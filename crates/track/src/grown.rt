@@ -18,17 +18,6 @@ use skin_list::list_skin;
 use table::row_count;
 use tallies::count_rows;
 
-fn copy(from: &[u8], to: &mut [u8])
-    requires { length from.now ≤ length to.old }
-    ensures { to.new ≡ written from.now to.old }
-{
-    let mut i = 0;
-    while i < from.len() {
-        to[i] = from[i];
-        i += 1;
-    }
-}
-
 // The answers, and at the front of the final marks the marks after them, with the work area for these.
 fn answer_copied(
     rows: &[u8],
@@ -45,8 +34,8 @@ fn answer_copied(
         × (final_marks.new ≡ written (marks_grown (table_in rows.now) marks.now (proposals_in proposals.now)) final_marks.old)
         × (work.new ≡ work_area (table_in rows.now) ids (marks_grown (table_in rows.now) marks.now (proposals_in proposals.now))) }
 {
-    copy(marks, final_marks);
     let n = marks.len();
+    final_marks[..n].copy_from_slice(marks);
     answer_all(rows, ids, proposals, answers, &mut final_marks[..n], work)
 }
 

@@ -1,7 +1,9 @@
 -- What is told of each call, in words of 32 bits.
-use Rattle.std.specs.Prelude.{◌≡◌, List, [], ◌∷◌, ℕ, ◌<◌, Float, ℤ}
-use Rattle.std.proofs.Math.Path.{ap}
-use Rattle.std.proofs.Common.{◌∙◌, arith}
+use Rattle.std.specs.Prelude.{◌≡◌, List, [], ◌∷◌, ◌++◌, ℕ, ◌+◌, ◌<◌, Float, ℤ, length, drop}
+use Rattle.std.proofs.Math.Path.{ap, sym}
+use Rattle.std.proofs.Common.{◌∙◌, arith, append-nil}
+use Rattle.std.proofs.lemmas.List.{drop_all}
+use Rattle.std.proofs.lemmas.List.Edits.{sets-eq}
 use Rattle.std.proofs.Math.Option.{Option, some, none}
 use Rattle.std.proofs.Math.Seq.{sets}
 use Rattle.rules.specs.Job.{track, Lent, Result, run}
@@ -41,6 +43,12 @@ write_words r = (writing.verdict_of r).code ∷ (writing.verdict_of r).place ∷
 
 abbrev pub read_words : Reading → List ℕ
 read_words r = (reading.verdict_of r).code ∷ (reading.verdict_of r).place ∷ reading.facets_in r ∷ bits_back (reading.off_in r) ∷ []
+
+-- words that take the place of as many others
+pub words_put : (before words : List ℕ) → length before ≡ length words → words ≡ sets before 0 words
+words_put before words e =
+    let none : drop (0 + length words) before ≡ [] = drop_all (0 + length words) before (omega (arith, e)) in
+    sym (sets-eq words before 0 (omega (arith, e)) ∙ ap (λ (rest : List ℕ). words ++ rest) none ∙ append-nil words)
 
 -- ---- it fits
 

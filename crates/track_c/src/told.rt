@@ -15,22 +15,6 @@ fn narrow(x: usize) -> u32
     x as u32
 }
 
-fn put_two(outcome: &mut [u32; 2], a: u32, b: u32)
-    ensures { outcome.new ≡ sets outcome.old 0 (a ∷ b ∷ []) }
-{
-    outcome[0] = a;
-    outcome[1] = b;
-}
-
-fn put_four(outcome: &mut [u32; 4], a: u32, b: u32, c: u32, d: u32)
-    ensures { outcome.new ≡ sets outcome.old 0 (a ∷ b ∷ c ∷ d ∷ []) }
-{
-    outcome[0] = a;
-    outcome[1] = b;
-    outcome[2] = c;
-    outcome[3] = d;
-}
-
 // Code, place, taken and triangles.
 pub(crate) fn tell_run(r: Outcome, outcome: &mut [u32; 4])
     requires { RunFits r }
@@ -40,7 +24,7 @@ pub(crate) fn tell_run(r: Outcome, outcome: &mut [u32; 4])
     let place = narrow(r.place);
     let taken = narrow(r.taken);
     let triangles = narrow(r.triangles);
-    put_four(outcome, code, place, taken, triangles);
+    *outcome = [code, place, taken, triangles];
 }
 
 // Code and place.
@@ -49,10 +33,10 @@ pub(crate) fn tell_write(r: Writing, outcome: &mut [u32; 2])
     ensures { outcome.new ≡ sets outcome.old 0 (write_words r) }
 {
     match r {
-        Writing::Done => put_two(outcome, 0, 0),
-        Writing::Facets => put_two(outcome, 1, 0),
-        Writing::Number(k) => put_two(outcome, 2, narrow(k)),
-        Writing::Room => put_two(outcome, 3, 0),
+        Writing::Done => *outcome = [0, 0],
+        Writing::Facets => *outcome = [1, 0],
+        Writing::Number(k) => *outcome = [2, narrow(k)],
+        Writing::Room => *outcome = [3, 0],
     }
 }
 
@@ -61,11 +45,11 @@ pub(crate) fn tell_read(r: Reading, outcome: &mut [u32; 4])
     ensures { outcome.new ≡ sets outcome.old 0 (read_words r) }
 {
     match r {
-        Reading::Facets(facets) => put_four(outcome, 0, 0, facets, 0),
-        Reading::Length => put_four(outcome, 1, 0, 0, 0),
-        Reading::Header => put_four(outcome, 2, 0, 0, 0),
-        Reading::Room => put_four(outcome, 3, 0, 0, 0),
-        Reading::NotZero(facet) => put_four(outcome, 4, facet, 0, 0),
-        Reading::Off(_, bits, facet) => put_four(outcome, 5, facet, 0, bits),
+        Reading::Facets(facets) => *outcome = [0, 0, facets, 0],
+        Reading::Length => *outcome = [1, 0, 0, 0],
+        Reading::Header => *outcome = [2, 0, 0, 0],
+        Reading::Room => *outcome = [3, 0, 0, 0],
+        Reading::NotZero(facet) => *outcome = [4, facet, 0, 0],
+        Reading::Off(_, bits, facet) => *outcome = [5, facet, 0, bits],
     }
 }

@@ -22,7 +22,7 @@ use Rattle.rules.specs.Laws.Job.{job_ids, job_corners, job_rows}
 use Rattle.rules.specs.Laws.Lists.{part_length}
 use Rattle.rules.specs.Laws.Proposals.{final_length}
 use Rattle.rules.specs.Laws.Written.{written_length, written_at, written_over}
-use Rattle.rules.specs.Reading.Closed.{Paired, Closed}
+use Rattle.rules.specs.Reading.Closed.{Paired}
 use Rattle.rules.specs.Reading.Work.{work_length, work_across}
 use Rattle.rules.specs.Reading.Codes.{RoomShort, layout_passed, accepted_grid}
 use Rattle.rules.proofs.Reading.Codes.{accepted_room, accepted_header, accepted_length}

@@ -1,5 +1,5 @@
 -- The skin in either order, its file, and what listing it again leaves.
-use Rattle.std.specs.Prelude.{◌≡◌, refl, Bool, true, ℕ, ◌+◌, ◌*◌, ◌≤◌, ◌<◌, length, get_or}
+use Rattle.std.specs.Prelude.{◌≡◌, refl, Bool, true, ℕ, ◌*◌, ◌≤◌, ◌<◌, length, get_or}
 use Rattle.std.proofs.Common.{sym, ap, ◌∙◌, subst, le_refl, arith}
 use Rattle.std.proofs.Math.Option.{some}
 use mathlib.Core.List.{List, ◌++◌, flatten}

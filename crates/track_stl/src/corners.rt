@@ -11,7 +11,6 @@ ghost use Rattle.track_stl.specs.Corners.{point_corner, id_corner, triangle_face
 
 use stl::corner::{Corner, corner_of};
 use stl::facet::{put_facet, put_front};
-use values::from_u32;
 use volume::point_at;
 
 // The corner at the point of an id.
@@ -28,7 +27,7 @@ fn corner_in(points: &[u8], ids: usize, triangles: &[u32], place: usize) -> Corn
     requires { Grid points.now ids × (place < length triangles.now) × Below triangles.now (place + 1) ids }
     ensures { result ≡ id_corner (point_in points.now) triangles.now place }
 {
-    corner_at(points, ids, from_u32(triangles[place]))
+    corner_at(points, ids, triangles[place] as usize)
 }
 
 // Facet k: the triangle's three corners.
@@ -54,9 +53,7 @@ pub(crate) fn put_triangles(
     ensures { file.new ≡ written (header ++ (bytes_of 4 count ++ gather count (triangle_facet (point_in points.now) triangles.now))) file.old }
 {
     put_front(file, count as u32);
-    let mut k = 0;
-    while k < count {
+    for k in 0..count {
         put_triangle(points, ids, triangles, k, file);
-        k += 1;
     }
 }

@@ -32,13 +32,15 @@ fn list_file(file: &[u8], out: &mut [u8]) -> Said
 // the same answer.
 pub(crate) fn print_facets(rt: &HostRuntime) {
     let mut file = [0u8; 204885];
-    let input = read_input(&mut rt.stdin(), &mut file);
-    if let Some(error) = input.failed {
-        fail(rt, b"stl: the file could not be read", error);
-        return;
-    }
+    let count = match read_input(&mut rt.stdin(), &mut file) {
+        Ok(count) => count,
+        Err(error) => {
+            fail(rt, b"stl: the file could not be read", error);
+            return;
+        }
+    };
     let mut out = [0u8; FACETS_ROOM];
-    let said = list_file(&file[..input.count], &mut out);
+    let said = list_file(&file[..count], &mut out);
     say(
         rt,
         &out[..said.size],

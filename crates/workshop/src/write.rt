@@ -39,13 +39,15 @@ fn put_skin(job: &[u8], file: &mut [u8]) -> Said
 // same refusal.
 pub(crate) fn print_skin(rt: &HostRuntime) {
     let mut job = [0u8; 65536];
-    let input = read_input(&mut rt.stdin(), &mut job);
-    if let Some(error) = input.failed {
-        fail(rt, b"stl: the job could not be read", error);
-        return;
-    }
+    let count = match read_input(&mut rt.stdin(), &mut job) {
+        Ok(count) => count,
+        Err(error) => {
+            fail(rt, b"stl: the job could not be read", error);
+            return;
+        }
+    };
     let mut file = [0u8; 204884];
-    let said = put_skin(&job[..input.count], &mut file);
+    let said = put_skin(&job[..count], &mut file);
     say(
         rt,
         &file[..said.size],

@@ -1,10 +1,6 @@
-use Rattle.std.proofs.Common.{◌-◌}
 use Rattle.lines.specs.Listing.{triangle_line}
 use Rattle.lines.specs.Room.{LineTurns}
 use Rattle.lines.proofs.done.put_triangles.Given as goal
 
 abbrev pub invariant-loop-k : goal.invariant-loop-k
 invariant-loop-k l = LineTurns (triangle_line l.triangles) 35 l.count l.initial.out l.at l.out l.next l.k
-
-abbrev pub decreases-loop-k : goal.decreases-loop-k
-decreases-loop-k l = l.count - l.k

@@ -1,4 +1,3 @@
-use Rattle.std.proofs.Common.{◌-◌}
 use Rattle.rules.specs.Points.{point_in}
 use Rattle.stl.specs.Filling.{Filled}
 use Rattle.track_stl.specs.Corners.{triangle_facet, triangle_fifty}
@@ -6,6 +5,3 @@ use Rattle.track_stl.proofs.corners.put_triangles.Given as goal
 
 abbrev pub invariant-loop-k : goal.invariant-loop-k
 invariant-loop-k l = Filled l.count (triangle_facet (point_in l.points) l.triangles) (triangle_fifty (point_in l.points) l.triangles) l.initial.file l.k l.file
-
-abbrev pub decreases-loop-k : goal.decreases-loop-k
-decreases-loop-k l = l.count - l.k
