@@ -2,13 +2,10 @@ use Rattle.points.specs.Placed.{on_grid_lem, point_found, flat_found, fold_found
 use Rattle.values.specs.Places.{none_of}
 use Rattle.points.proofs.check_points.Goals as goal
 
-pub flat_row-requires : goal.flat_row-requires
-flat_row-requires c =
-    let (ground, few, room) = c.requires in (ground.paired, on_grid_lem c.off_grid.ensures (none_of c.in_default.not-Some) few room)
-
-pub folded_row-requires : goal.folded_row-requires
-folded_row-requires c =
-    let (ground, few, room) = c.requires in (ground, on_grid_lem c.off_grid.ensures (none_of c.in_default.not-Some) few room)
+pub invariant_of-placed : goal.invariant_of-placed
+invariant_of-placed c =
+    let (below, few, room) = c.requires in
+    record { tested = (below, few, room, (on_grid_lem c.off_grid.ensures (none_of c.in_default.not-Some) few room).on) }
 
 pub returns-in-Some : goal.returns-in-Some
 returns-in-Some c = point_found _ _ _ _ c.off_grid.ensures c.in-Some.is
