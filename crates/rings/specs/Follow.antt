@@ -1,10 +1,10 @@
 -- The ring of a vertex, followed from one skin triangle to the next about their common edge.
-use Rattle.std.specs.Prelude.{◌≡◌, refl, ◌⊎◌, ◌↔◌, ◌≢◌, Bool, true, false, not, ◌&&◌, ◌||◌, ℕ, ◌+◌, ◌*◌, ◌/◌, ◌%◌, ◌≤◌, ◌<◌, eqb}
+use Rattle.std.specs.Prelude.{◌≡◌, refl, Option, Some, None, ◌⊎◌, ◌↔◌, ◌≢◌, Bool, true, false, not, ◌&&◌, ◌||◌, ℕ, ◌+◌, ◌*◌, ◌/◌, ◌%◌, ◌≤◌, ◌<◌, eqb}
 use Rattle.std.proofs.Common.{sym, ◌∙◌, inl, inr, ⊎_elim, zero-le, mod-lt, arith, lit<, eqb-true, eq-eqb}
 use Rattle.std.proofs.Math.Path.{subst}
 use Rattle.std.proofs.Math.Bool.{xor}
 use Rattle.std.proofs.Math.Option.{none}
-use Rattle.std.proofs.lemmas.Bool.{eqb-false, not-true, not-false}
+use Rattle.std.proofs.lemmas.Bool.{eqb-false, not-false}
 use Rattle.rules.specs.Below.{count, lowest}
 use Rattle.rules.specs.Table.{Table, across}
 use Rattle.rules.specs.Skin.{on_skin, far_edge, skin_vertex, one_ring, ringless}
@@ -19,6 +19,7 @@ use Rattle.rules.specs.Reading.Closed.{Paired, Closed, across_is, across_other}
 use Rattle.rules.specs.Reading.Skin.{different_reads, skin_between, far_back}
 use Rattle.rules.specs.Reading.Ring.{one_ring_reads, off_skin_ring}
 use Rattle.table.specs.Faces.{face_of}
+use Rattle.rings.specs.declared.ring.Landing.{Landing}
 use Rattle.round.specs.Trail.{Next, with, pair}
 use Rattle.round.specs.Edge.{way_on, Turned}
 use Rattle.rings.specs.Far.{in_face, first_end, second_end, in_face_lem, first_in, second_in, split, face_rises, face_corner, differ_far, shown, shown_at}
@@ -43,6 +44,15 @@ pub record Landed (t : Table) (inside : ℕ → Bool) (n v w x y : ℕ) (two : B
   pub there : Between t inside v w end p q
   pub new : (u : ℕ) → Between t inside v w u x y → end ≢ u
   pub counted : two ≡ two_far t inside n v w
+
+-- so one comes on if w lies on exactly two far edges of v, and nowhere if not
+abbrev pub LandedAt : Table → (ℕ → Bool) → ℕ → ℕ → ℕ → ℕ → ℕ → Option Landing → Type 0
+LandedAt t inside n v w x y (Some to) = Landed t inside n v w x y true to.inner to.outer to.end
+LandedAt t inside n v w x y None = false ≡ two_far t inside n v w
+
+pub not_landed : (t : Table) (inside : ℕ → Bool) (n v w x y : ℕ) {o : Option Landing} → ((to : Landing) → o ≡ Some to → ⊥) → LandedAt t inside n v w x y o → false ≡ two_far t inside n v w
+not_landed t inside n v w x y {o = Some to} off h = absurd (off to refl)
+not_landed t inside n v w x y {o = None} off h = h
 
 -- On the way, w is the end ahead, in the triangle between x and y. As many ends as `met` says were turned at.
 pub record Underway (t : Table) (inside : ℕ → Bool) (n v first w x y met : ℕ) : Type 0 where
@@ -155,8 +165,8 @@ module _ {t : Table} {n : ℕ} (closed : Closed t n) (four : t.corners ≡ 4) {i
   two_edges : {w x y : ℕ} {two : Bool} {p q end : ℕ} → Landed t inside n v w x y two p q end → not two ≡ false → count n (far_edge t inside v w) ≡ 2
   two_edges {w} {two = two} h e = eqb-true (count n (far_edge t inside v w)) 2 (sym h.counted ∙ not-false two e)
 
-  pub turn_fails : {w x y : ℕ} → SkinEdge t inside v w x y → {two : Bool} {p q end : ℕ} → Landed t inside n v w x y two p q end → not two ≡ true → false ≡ one_ring t inside n v
-  turn_fails {w} (u, here) {two} h e = sym (ring_false here (eqb-false (count n (far_edge t inside v w)) 2 (sym h.counted ∙ not-true two e)))
+  pub turn_fails : {w x y : ℕ} → SkinEdge t inside v w x y → false ≡ two_far t inside n v w → false ≡ one_ring t inside n v
+  turn_fails {w} (u, here) e = sym (ring_false here (eqb-false (count n (far_edge t inside v w)) 2 (sym e)))
 
   module _ {first w x y met : ℕ} (s : Ringing t inside n v first w x y met) (test : (eqb met 0 || not (eqb w first)) ≡ true) where
     on_the_way : Unturned t inside v first w x y met ⊎ Underway t inside n v first w x y met

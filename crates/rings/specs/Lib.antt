@@ -5,9 +5,11 @@
 --     Sides     a skin triangle is between two rows: from one to the next about a common edge
 --     Ring      edges followed from end to end
 --     Follow    the ring of a vertex, followed so
+--     InTurn    a search whose test asks what it told of the numbers before
 pub mod Far
 pub mod Ends
 pub mod Tallies
 pub mod Sides
 pub mod Ring
 pub mod Follow
+pub mod InTurn

@@ -1,6 +1,6 @@
 -- Edges between numbers below n, followed from end to end: each end that was turned at has exactly two. Where the first end is next, the edges
 -- form one ring exactly if those turned at are all the ends there are.
-use Rattle.std.specs.Prelude.{◌≡◌, refl, ◌⊎◌, ◌↔◌, ◌≢◌, Bool, true, false, ℕ, zero, suc, ◌+◌, ◌≤◌, ◌<◌}
+use Rattle.std.specs.Prelude.{◌≡◌, refl, ◌↔◌, ◌≢◌, Bool, true, false, ℕ, zero, suc, ◌+◌, ◌≤◌, ◌<◌}
 use Rattle.std.proofs.Common.{sym, ap, ◌∙◌, ⊎_elim, zero-le, le_refl, arith}
 use Rattle.std.proofs.Math.Nat.{le_step}
 use Rattle.rules.specs.Below.{bit, sum, count}

@@ -4,21 +4,19 @@ ghost use Rattle.rules.specs.Below.{count};
 ghost use Rattle.rules.specs.Skin.{one_ring};
 ghost use Rattle.rules.specs.Proposals.{inside_in};
 ghost use Rattle.table.specs.Rows.{table_in, rows_in};
-ghost use Rattle.table.specs.Faces.{face_corners};
 ghost use Rattle.round.specs.Edge.{Turned};
 ghost use Rattle.rings.specs.Far.{first_end, shown_at, Marked};
 ghost use Rattle.rings.specs.Tallies.{Tallied};
-ghost use Rattle.rings.specs.Follow.{SkinEdge, RingsBelow, two_far, Landed};
+ghost use Rattle.rings.specs.Follow.{SkinEdge, RingsBelow, two_far, LandedAt};
 
 use round::{Stop, onward, turn};
 use table::across_at;
-use table::faces::{Face, face_of};
+use table::faces::Face;
 use values::choose;
 
-// The skin triangle that a turn comes to: the rows on its two sides and its third id. `two` if the edge is in no further skin triangle.
+// A skin triangle at the vertex that a turn comes to: the rows on its two sides and its third id, the end ahead.
 #[derive(Clone, Copy)]
-struct Landing {
-    two: bool,
+pub(crate) struct Landing {
     inner: usize,
     outer: usize,
     end: usize,
@@ -33,24 +31,24 @@ fn is_two(
     ids: usize,
     low: usize,
     vertex: usize,
-    end: usize,
-    inner: usize,
-    outer: usize,
+    from: Landing,
     within: Stop,
 ) -> bool
     requires { Marked rows.now neighbours.now marks.now ids × RingsBelow (table_in rows.now) (inside_in marks.now) ids low
-        × SkinEdge (table_in rows.now) (inside_in marks.now) vertex end inner outer
-        × Turned (table_in rows.now) (inside_in marks.now) vertex end outer inner within.at within.next }
-    ensures { result ≡ two_far (table_in rows.now) (inside_in marks.now) ids vertex end }
+        × SkinEdge (table_in rows.now) (inside_in marks.now) vertex from.end from.inner from.outer
+        × Turned (table_in rows.now) (inside_in marks.now) vertex from.end from.outer from.inner within.at within.next }
+    ensures { result ≡ two_far (table_in rows.now) (inside_in marks.now) ids vertex from.end }
 {
-    if end < low {
+    if from.end < low {
         return true;
     }
-    let without = turn(rows, neighbours, marks, vertex, end, inner, outer);
+    let without = turn(
+        rows, neighbours, marks, vertex, from.end, from.inner, from.outer,
+    );
     (without.next == within.at) & (without.at == within.next)
 }
 
-// From the skin triangle between two rows about the edge of the vertex and an end to the next one, through the inside rows.
+// From a skin triangle about the edge of the vertex and its end to the next one, through the inside rows; none if the edge is in a further one.
 fn turn_at(
     rows: &[u8],
     neighbours: &[u32],
@@ -58,29 +56,28 @@ fn turn_at(
     ids: usize,
     low: usize,
     vertex: usize,
-    end: usize,
-    inner: usize,
-    outer: usize,
-) -> Landing
+    from: Landing,
+) -> Option<Landing>
     requires { Marked rows.now neighbours.now marks.now ids × RingsBelow (table_in rows.now) (inside_in marks.now) ids low
-        × SkinEdge (table_in rows.now) (inside_in marks.now) vertex end inner outer }
-    ensures { Landed (table_in rows.now) (inside_in marks.now) ids vertex end inner outer result.two result.inner result.outer result.end }
+        × SkinEdge (table_in rows.now) (inside_in marks.now) vertex from.end from.inner from.outer }
+    ensures { LandedAt (table_in rows.now) (inside_in marks.now) ids vertex from.end from.inner from.outer result }
 {
-    let to = turn(rows, neighbours, marks, vertex, end, outer, inner);
-    let two = is_two(
-        rows, neighbours, marks, ids, low, vertex, end, inner, outer, to,
+    let to = turn(
+        rows, neighbours, marks, vertex, from.end, from.outer, from.inner,
     );
-    let way = onward(rows, neighbours, vertex, end, to.next, to.at);
-    Landing {
-        two,
+    if !is_two(rows, neighbours, marks, ids, low, vertex, from, to) {
+        return None;
+    }
+    let way = onward(rows, neighbours, vertex, from.end, to.next, to.at);
+    Some(Landing {
         inner: to.at,
         outer: to.next,
         end: way.id,
-    }
+    })
 }
 
 // From a skin triangle of the vertex round to its first end. The far edges form one ring exactly if each end lies on two of them and as many
-// ends are turned at as the vertex has skin triangles.
+// ends are turned at as the vertex has skin triangles. No range gives the steps: the walk ends where the first end is ahead again.
 fn follow(
     rows: &[u8],
     neighbours: &[u32],
@@ -88,28 +85,21 @@ fn follow(
     ids: usize,
     low: usize,
     vertex: usize,
-    first: usize,
-    inner: usize,
-    outer: usize,
+    start: Landing,
     total: usize,
 ) -> bool
     requires { Marked rows.now neighbours.now marks.now ids × RingsBelow (table_in rows.now) (inside_in marks.now) ids low
-        × SkinEdge (table_in rows.now) (inside_in marks.now) vertex first inner outer
+        × SkinEdge (table_in rows.now) (inside_in marks.now) vertex start.end start.inner start.outer
         × (total ≡ count (4 * rows_in rows.now) (shown_at (table_in rows.now) (inside_in marks.now) vertex)) }
     ensures { result ≡ one_ring (table_in rows.now) (inside_in marks.now) ids vertex }
 {
-    let mut x = inner;
-    let mut y = outer;
-    let mut end = first;
+    let mut at = start;
     let mut met = 0;
-    while (met == 0) | (end != first) {
-        let next = turn_at(rows, neighbours, marks, ids, low, vertex, end, x, y);
-        if !next.two {
+    while (met == 0) | (at.end != start.end) {
+        let Some(next) = turn_at(rows, neighbours, marks, ids, low, vertex, at) else {
             return false;
-        }
-        x = next.inner;
-        y = next.outer;
-        end = next.end;
+        };
+        at = next;
         met += 1;
     }
     met == total
@@ -128,14 +118,13 @@ pub(crate) fn is_ring(
     rows: &[u8],
     neighbours: &[u32],
     marks: &[u8],
-    corners: &[u8; 42],
     ids: usize,
     low: usize,
     vertex: usize,
     total: usize,
     place: usize,
 ) -> bool
-    requires { Marked rows.now neighbours.now marks.now ids × RingsBelow (table_in rows.now) (inside_in marks.now) ids low × (corners.now ≡ face_corners) × Tallied rows.now marks.now vertex (4 * rows_in rows.now) total place }
+    requires { Marked rows.now neighbours.now marks.now ids × RingsBelow (table_in rows.now) (inside_in marks.now) ids low × Tallied rows.now marks.now vertex (4 * rows_in rows.now) total place }
     ensures { result ≡ one_ring (table_in rows.now) (inside_in marks.now) ids vertex }
 {
     if total == 0 {
@@ -143,9 +132,10 @@ pub(crate) fn is_ring(
     }
     let row = place / 4;
     let corner = place % 4;
-    let first = first_end(face_of(rows, corners, row, corner), vertex);
-    let outer = across_at(neighbours, row, corner);
-    follow(
-        rows, neighbours, marks, ids, low, vertex, first, row, outer, total,
-    )
+    let start = Landing {
+        inner: row,
+        outer: across_at(neighbours, row, corner),
+        end: first_end(Face::of(rows, row, corner), vertex),
+    };
+    follow(rows, neighbours, marks, ids, low, vertex, start, total)
 }

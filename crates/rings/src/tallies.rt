@@ -3,12 +3,11 @@
 ghost use Rattle.std.specs.Prelude.{◌≡◌, true, ◌+◌, ◌*◌, ◌/◌, ◌<◌, get_or, set};
 ghost use Rattle.rules.specs.Proposals.{inside_in};
 ghost use Rattle.table.specs.Rows.{table_in, rows_in};
-ghost use Rattle.table.specs.Faces.{face_corners};
 ghost use Rattle.rings.specs.Far.{in_face, shown_at, Marked};
 ghost use Rattle.rings.specs.Tallies.{Tallied, Tallies, more};
 
 use skin::{is_between, is_inside};
-use table::faces::{Face, face_of};
+use table::faces::Face;
 use table::row_count;
 use values::choose;
 
@@ -29,15 +28,14 @@ fn is_shown(
     rows: &[u8],
     neighbours: &[u32],
     marks: &[u8],
-    corners: &[u8; 42],
     ids: usize,
     vertex: usize,
     place: usize,
 ) -> bool
-    requires { Marked rows.now neighbours.now marks.now ids × (place < 4 * rows_in rows.now) × (corners.now ≡ face_corners) }
+    requires { Marked rows.now neighbours.now marks.now ids × (place < 4 * rows_in rows.now) }
     ensures { result ≡ shown_at (table_in rows.now) (inside_in marks.now) vertex place }
 {
-    let f = face_of(rows, corners, place / 4, place % 4);
+    let f = Face::of(rows, place / 4, place % 4);
     let inner = is_inside(marks, place / 4);
     let side = is_between(neighbours, marks, place / 4, place % 4);
     inner & (side & in_face(f, vertex))
@@ -47,22 +45,18 @@ pub(crate) fn tally_one(
     rows: &[u8],
     neighbours: &[u32],
     marks: &[u8],
-    corners: &[u8; 42],
     ids: usize,
     vertex: usize,
 ) -> Tally
-    requires { Marked rows.now neighbours.now marks.now ids × (corners.now ≡ face_corners) }
+    requires { Marked rows.now neighbours.now marks.now ids }
     ensures { Tallied rows.now marks.now vertex (4 * rows_in rows.now) result.count result.place }
 {
-    let end = 4 * row_count(rows);
     let mut count = 0;
     let mut last = 0;
-    let mut place = 0;
-    while place < end {
-        let on = is_shown(rows, neighbours, marks, corners, ids, vertex, place);
+    for place in 0..4 * row_count(rows) {
+        let on = is_shown(rows, neighbours, marks, ids, vertex, place);
         count += choose(on, 1, 0);
         last = choose(on, place, last);
-        place += 1;
     }
     Tally { count, place: last }
 }
@@ -72,7 +66,7 @@ fn meet(id: usize, place: usize, counts: &mut [u16; 1024], places: &mut [u16; 10
     requires { (id < 1024) × (place < 8192) × (get_or counts.old id 0 < 16384) }
     ensures { (counts.new ≡ more id counts.old) × (places.new ≡ set places.old id place) }
 {
-    counts[id] = counts[id] + 1;
+    counts[id] += 1;
     places[id] = place as u16;
 }
 
@@ -81,20 +75,19 @@ fn tally_place(
     rows: &[u8],
     neighbours: &[u32],
     marks: &[u8],
-    corners: &[u8; 42],
     ids: usize,
     place: usize,
     counts: &mut [u16; 1024],
     places: &mut [u16; 1024],
 )
-    requires { Marked rows.now neighbours.now marks.now ids × (place < 4 * rows_in rows.now) × (corners.now ≡ face_corners)
+    requires { Marked rows.now neighbours.now marks.now ids × (place < 4 * rows_in rows.now)
         × (inside_in marks.now (place / 4) ≡ true) × Tallies rows.now marks.now place counts.old places.old }
     ensures { Tallies rows.now marks.now (place + 1) counts.new places.new }
 {
     if !is_between(neighbours, marks, place / 4, place % 4) {
         return;
     }
-    let f = face_of(rows, corners, place / 4, place % 4);
+    let f = Face::of(rows, place / 4, place % 4);
     meet(f.a, place, counts, places);
     meet(f.b, place, counts, places);
     meet(f.c, place, counts, places);
@@ -105,24 +98,20 @@ fn tally_row(
     rows: &[u8],
     neighbours: &[u32],
     marks: &[u8],
-    corners: &[u8; 42],
     ids: usize,
     row: usize,
     counts: &mut [u16; 1024],
     places: &mut [u16; 1024],
 )
-    requires { Marked rows.now neighbours.now marks.now ids × (row < rows_in rows.now) × (corners.now ≡ face_corners)
+    requires { Marked rows.now neighbours.now marks.now ids × (row < rows_in rows.now)
         × Tallies rows.now marks.now (4 * row) counts.old places.old }
     ensures { Tallies rows.now marks.now (4 * (row + 1)) counts.new places.new }
 {
     if !is_inside(marks, row) {
         return;
     }
-    let end = 4 * row + 4;
-    let mut place = 4 * row;
-    while place < end {
-        tally_place(rows, neighbours, marks, corners, ids, place, counts, places);
-        place += 1;
+    for place in 4 * row..4 * row + 4 {
+        tally_place(rows, neighbours, marks, ids, place, counts, places);
     }
 }
 
@@ -131,18 +120,14 @@ pub(crate) fn tally_all(
     rows: &[u8],
     neighbours: &[u32],
     marks: &[u8],
-    corners: &[u8; 42],
     ids: usize,
     counts: &mut [u16; 1024],
     places: &mut [u16; 1024],
 )
-    requires { Marked rows.now neighbours.now marks.now ids × (corners.now ≡ face_corners) × Tallies rows.now marks.now 0 counts.old places.old }
+    requires { Marked rows.now neighbours.now marks.now ids × Tallies rows.now marks.now 0 counts.old places.old }
     ensures { Tallies rows.now marks.now (4 * rows_in rows.now) counts.new places.new }
 {
-    let n = row_count(rows);
-    let mut row = 0;
-    while row < n {
-        tally_row(rows, neighbours, marks, corners, ids, row, counts, places);
-        row += 1;
+    for row in 0..row_count(rows) {
+        tally_row(rows, neighbours, marks, ids, row, counts, places);
     }
 }

@@ -4,21 +4,21 @@ use Rattle.table.specs.Ground.{neighbour_listed}
 use Rattle.rings.proofs.ring.is_ring.Goals as goal
 
 pub returns-then-total-eq0 : goal.returns-then-total-eq0
-returns-then-total-eq0 c = let given = c.requires in none_shown given.0.closed refl _ _ (sym given.3.counted ∙ c.if-total-eq0.true)
+returns-then-total-eq0 c = let given = c.requires in none_shown given.0.closed refl _ _ (sym given.2.counted ∙ c.if-total-eq0.true)
 
-pub face_of-requires : goal.face_of-requires
-face_of-requires c =
+pub of-requires : goal.of-requires
+of-requires c =
     let given = c.requires in
-    (start_row given.0.closed refl _ _ given.3.counted given.3.last c.if-total-eq0.false, omega arith, given.2)
+    (start_row given.0.closed refl _ _ given.2.counted given.2.last c.if-total-eq0.false, omega arith)
 
-pub across_at-outer-requires : goal.across_at-outer-requires
-across_at-outer-requires c =
+pub across_at-requires : goal.across_at-requires
+across_at-requires c =
     let given = c.requires in
-    neighbour_listed given.0.ground _ _ (start_row given.0.closed refl _ _ given.3.counted given.3.last c.if-total-eq0.false) (mod-lt _ (lit< tt))
+    neighbour_listed given.0.ground _ _ (start_row given.0.closed refl _ _ given.2.counted given.2.last c.if-total-eq0.false) (mod-lt _ (lit< tt))
 
 pub follow-requires : goal.follow-requires
 follow-requires c =
     let given = c.requires in
     let some = c.if-total-eq0.false in
-    let row = start_row given.0.closed refl _ _ given.3.counted given.3.last some in
-    (given.0, given.1, rw (c.first_end-first.ensures, c.face_of.ensures, c.across_at-outer.ensures, given.0.ground.at _ _ row (mod-lt c.args.place (lit< tt))) (start_edge given.0.closed refl _ _ given.3.counted given.3.last some), given.3.counted)
+    let row = start_row given.0.closed refl _ _ given.2.counted given.2.last some in
+    (given.0, given.1, rw (c.first_end.ensures, c.of.ensures, c.across_at.ensures, given.0.ground.at _ _ row (mod-lt c.args.place (lit< tt))) (start_edge given.0.closed refl _ _ given.2.counted given.2.last some), given.2.counted)

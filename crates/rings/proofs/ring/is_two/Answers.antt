@@ -4,8 +4,8 @@ use Rattle.rings.specs.Sides.{between_near}
 use Rattle.round.specs.Edge.{near_back}
 use Rattle.rings.proofs.ring.is_two.Goals as goal
 
-pub returns-then-end-low : goal.returns-then-end-low
-returns-then-end-low c = let given = c.requires in two_known given.0.closed refl given.2 (given.1 _ c.if-end-low.true)
+pub returns-then-from-low : goal.returns-then-from-low
+returns-then-from-low c = let given = c.requires in two_known given.0.closed refl given.2 (given.1 _ c.if-from-low.true)
 
 pub turn-without-requires : goal.turn-without-requires
 turn-without-requires c =

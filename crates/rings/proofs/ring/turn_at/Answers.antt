@@ -1,6 +1,7 @@
-use Rattle.std.proofs.Common.{refl, arith}
+use Rattle.std.proofs.Common.{refl, sym, ◌∙◌, arith, ap, not}
 use Rattle.rings.specs.Follow.{landed}
 use Rattle.rings.specs.Sides.{between_near}
+use Rattle.std.proofs.lemmas.Bool.{not-true, not-false}
 use Rattle.rings.proofs.ring.turn_at.Goals as goal
 
 pub turn-to-requires : goal.turn-to-requires
@@ -8,7 +9,10 @@ turn-to-requires c =
     let (marked, _, (_, here)) = c.requires in
     ((_, marked.ground), omega (arith, marked.each), here.differ.0, between_near marked.closed.paired refl here)
 
+pub returns-then-not-is_two : goal.returns-then-not-is_two
+returns-then-not-is_two c = sym (not-true c.is_two.result (ap not c.if-not-is_two.true)) ∙ c.is_two.ensures
+
 pub returns : goal.returns
 returns c =
     let (marked, _, here) = c.requires in
-    rw c.onward-way.ensures.1 (landed marked.closed refl here c.turn-to.ensures c.is_two-two.ensures)
+    rw c.onward-way.ensures.1 (landed marked.closed refl here c.turn-to.ensures (sym (not-false c.is_two.result (ap not c.if-not-is_two.false)) ∙ c.is_two.ensures))

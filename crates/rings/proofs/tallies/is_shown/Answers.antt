@@ -7,4 +7,4 @@ is_between-side-requires c = let given = c.requires in place_marked given.0 give
 pub returns : goal.returns
 returns c =
     let given = c.requires in
-    rw c.in_face.ensures (shown_by given.0 given.1 c.face_of-f.ensures c.is_inside-inner.ensures c.is_between-side.ensures _)
+    rw c.in_face.ensures (shown_by given.0 given.1 c.of-f.ensures c.is_inside-inner.ensures c.is_between-side.ensures _)

@@ -1,13 +1,13 @@
-use Rattle.std.proofs.Common.{arith, rules}
+use Rattle.std.proofs.Common.{arith}
 use Rattle.rings.specs.Tallies.{tally_begins, tally_few, tally_more, one_small}
 use Rattle.rings.proofs.tallies.tally_one.Goals as goal
 
 pub loop-place-init : goal.loop-place-init
-loop-place-init c = (search rules, tally_begins _ _ _)
+loop-place-init c = tally_begins _ _ _
 
 pub overflow_add-count : goal.overflow_add-count
-overflow_add-count c = omega (arith, tally_few c.loop-place.invariant.1, c.loop-place.invariant.0, c.requires.0.ground.few, one_small c.is_shown-on.result c.choose-count.ensures)
+overflow_add-count c = omega (arith, tally_few c.loop-place.invariant, c.loop-place-test.true, c.row_count-place-end.ensures, c.requires.ground.few, one_small c.is_shown-on.result c.choose-count.ensures)
 
 pub loop-place-preserved : goal.loop-place-preserved
 loop-place-preserved c =
-    (search rules, tally_more c.loop-place.invariant.1 c.is_shown-on.ensures (rw c.choose-count.ensures) c.choose-last.ensures)
+    tally_more c.loop-place.invariant c.is_shown-on.ensures (rw c.choose-count.ensures) c.choose-last.ensures

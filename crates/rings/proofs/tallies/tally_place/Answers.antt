@@ -8,29 +8,29 @@ is_between-requires c = let given = c.requires in place_marked given.0 given.1
 pub returns-then-not-is_between : goal.returns-then-not-is_between
 returns-then-not-is_between c =
     let given = c.requires in
-    tallies_pass given.4 (shown_side_off given.0 given.1 c.is_between.ensures (ap not c.if-not-is_between.true))
+    tallies_pass given.3 (shown_side_off given.0 given.1 c.is_between.ensures (ap not c.if-not-is_between.true))
 
 pub meet-requires : goal.meet-requires
 meet-requires c =
     let given = c.requires in
-    let fits = face_fits given.0 given.1 c.face_of-f.ensures in
-    (omega (arith, fits.0, fits.1, fits.2), omega (arith, given.0.ground.few, given.1), omega (arith, room_one given.4 fits, given.0.ground.few, given.1))
+    let fits = face_fits given.0 given.1 c.of-f.ensures in
+    (omega (arith, fits.0, fits.1, fits.2), omega (arith, given.0.ground.few, given.1), omega (arith, room_one given.3 fits, given.0.ground.few, given.1))
 
 pub meet-requires-2 : goal.meet-requires-2
 meet-requires-2 c =
     let given = c.requires in
-    let fits = face_fits given.0 given.1 c.face_of-f.ensures in
-    (omega (arith, fits.1, fits.2), omega (arith, given.0.ground.few, given.1), rw c.meet.ensures.0 (omega (arith, room_two given.4 fits, given.0.ground.few, given.1)))
+    let fits = face_fits given.0 given.1 c.of-f.ensures in
+    (omega (arith, fits.1, fits.2), omega (arith, given.0.ground.few, given.1), rw c.meet.ensures.0 (omega (arith, room_two given.3 fits, given.0.ground.few, given.1)))
 
 pub meet-requires-3 : goal.meet-requires-3
 meet-requires-3 c =
     let given = c.requires in
-    let fits = face_fits given.0 given.1 c.face_of-f.ensures in
-    (fits.2, omega (arith, given.0.ground.few, given.1), rw (c.meet-2.ensures.0, c.meet.ensures.0) (omega (arith, room_three given.4 fits, given.0.ground.few, given.1)))
+    let fits = face_fits given.0 given.1 c.of-f.ensures in
+    (fits.2, omega (arith, given.0.ground.few, given.1), rw (c.meet-2.ensures.0, c.meet.ensures.0) (omega (arith, room_three given.3 fits, given.0.ground.few, given.1)))
 
 pub returns : goal.returns
 returns c =
     let given = c.requires in
-    let fits = face_fits given.0 given.1 c.face_of-f.ensures in
+    let fits = face_fits given.0 given.1 c.of-f.ensures in
     rw (c.meet-3.ensures.0, c.meet-3.ensures.1, c.meet-2.ensures.0, c.meet-2.ensures.1, c.meet.ensures.0, c.meet.ensures.1)
-    (tallies_meet given.4 fits (shown_both given.0 given.1 c.face_of-f.ensures given.3 c.is_between.ensures (ap not c.if-not-is_between.false)))
+    (tallies_meet given.3 fits (shown_both given.0 given.1 c.of-f.ensures given.2 c.is_between.ensures (ap not c.if-not-is_between.false)))

@@ -1,9 +1,6 @@
-use Rattle.std.proofs.Common.{◌+◌, ◌*◌, ◌-◌, ◌≤◌}
+use Rattle.std.proofs.Common.{◌*◌, ◌≤◌}
 use Rattle.rings.specs.Tallies.{Tallies}
 use Rattle.rings.proofs.tallies.tally_row.Given as goal
 
 abbrev pub invariant-loop-place : goal.invariant-loop-place
-invariant-loop-place l = (4 * l.row ≤ l.place) × (l.place ≤ 4 * l.row + 4) × Tallies l.rows l.marks l.place l.counts l.places
-
-abbrev pub decreases-loop-place : goal.decreases-loop-place
-decreases-loop-place l = 4 * l.row + 4 - l.place
+invariant-loop-place l = (4 * l.row ≤ l.place) × Tallies l.rows l.marks l.place l.counts l.places
