@@ -141,7 +141,8 @@ impl Placed<'_> {
         ensures { result ≡ right_way (table_in self.entry.table.rows.now) (point_in self.entry.points.now) row corner }
     {
         let face = self.table.face(row, corner);
-        if self.is_outer(row) {
+        let outer = self.is_outer(row);
+        if outer {
             let far = self.far_id(row, corner);
             return 0 < self.side_of(face, far);
         }

@@ -9,13 +9,13 @@ side_of-requires c =
     let on_ground = ground_of c.args.self.table.tested c.args.self.tested.0 in let (l, m) = c.requires in
     (face_below _ on_ground.paired _ _ l m c.face-face.ensures, rw c.far_id-far.ensures (far_below _ on_ground.paired _ _ l m))
 
-pub returns-then-is_outer : goal.returns-then-is_outer
+pub returns-then-outer : goal.returns-then-outer
 unfolding above_zero
-returns-then-is_outer c =
+returns-then-outer c =
     let on_ground = ground_of c.args.self.table.tested c.args.self.tested.0 in let (l, m) = c.requires in
     let side = c.side_of.ensures in
     rw (back side.within tt)
-    (outer_way _ _ _ _ m c.face-face.ensures c.is_outer.ensures side.is c.if-is_outer.true c.far_id-far.ensures)
+    (outer_way _ _ _ _ m c.face-face.ensures c.is_outer-outer.ensures side.is c.if-outer.true c.far_id-far.ensures)
 
 pub side_of-requires-2 : goal.side_of-requires-2
 side_of-requires-2 c =
@@ -28,4 +28,4 @@ returns c =
     let on_ground = ground_of c.args.self.table.tested c.args.self.tested.0 in let (l, m) = c.requires in
     let side = c.side_of-2.ensures in
     rw (back side.within tt)
-    (finite_way _ _ _ _ m c.face-face.ensures c.is_outer.ensures side.is c.if-is_outer.false c.id_at.ensures)
+    (finite_way _ _ _ _ m c.face-face.ensures c.is_outer-outer.ensures side.is c.if-outer.false c.id_at.ensures)
