@@ -3,7 +3,7 @@
 
 ghost use Rattle.std.specs.Prelude.{◌≡◌, true, cond, ◌+◌, ◌<◌, set};
 
-// Stamps y and puts it into the queue, if it is fresh.
+// Stamps y and puts it into the queue, if it is fresh. Stamps and queue are fixed memory that the caller holds, so the tail goes beside them.
 pub fn visit(
     fresh: bool,
     y: usize,
