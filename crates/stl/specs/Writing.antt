@@ -1,12 +1,13 @@
 -- The facet writer's answer, as `rules` has it.
-use Rattle.std.specs.Prelude.{◌≡◌, refl, Bool, true, false, not, ◌||◌, cond, List, [], ◌∷◌, ℕ, ◌+◌, ◌%◌, ◌≤◌, ◌<◌, ltb, eqb, ℤ, pos, length, get_or, Result, Ok, Err}
-use Rattle.std.proofs.Common.{sym, ap, ◌∙◌, arith}
+use Rattle.std.specs.Prelude.{◌≡◌, refl, Bool, true, false, not, ◌||◌, cond, List, [], ◌∷◌, ℕ, ◌+◌, ◌/◌, ◌%◌, ◌≤◌, ◌<◌, ltb, eqb, ℤ, pos, length, get_or, Result, Ok, Err}
+use Rattle.std.proofs.Common.{sym, ap, ◌∙◌, arith, ltb-false}
 use Rattle.std.proofs.Math.Option.{Option, some, none}
 use Rattle.rules.specs.Below.{found, lowest}
 use Rattle.rules.specs.First.{given, Verdict, first_match}
 use Rattle.rules.specs.Points.{in_range}
 use Rattle.rules.specs.Job.{written}
 use Rattle.rules.specs.Stl.{most_facets, file_length, facets_of, file_of, write_tests, Wrote, write_facets}
+use Rattle.rules.specs.Laws.Truth.{or_no_second}
 use Rattle.rules.specs.Reading.Points.{range_reads}
 use Rattle.trips.specs.Writable.{Writable}
 use Rattle.trips.proofs.Writable.{wrote_exactly}
@@ -37,15 +38,23 @@ unfoldable pub strayed : Option ℕ → Result (Unit {0}) Refusal → Result (Un
 strayed (some k) other = Err (Number k)
 strayed none other = other
 
+-- not whole facets, or too many
+abbrev pub ill_counted : List ℤ → Bool
+ill_counted units = not (eqb (length units % 9) 0) || ltb most_facets (facets_of units)
+
 unfoldable pub writing : List ℤ → ℕ → Result (Unit {0}) Refusal
 writing units room =
-    cond (not (eqb (length units % 9) 0) || ltb most_facets (facets_of units)) (Err Facets)
+    cond (ill_counted units) (Err Facets)
     (strayed (lowest (length units) (stray_in units)) (cond (ltb room (file_length (facets_of units))) (Err Room) (Ok tt)))
 
 -- what an answer leaves of the lent bytes
 unfoldable pub left_by : Result (Unit {0}) Refusal → List ℤ → List ℕ → List ℕ
 left_by (Ok _) units lent = written (file_of units) lent
 left_by (Err refusal) units lent = lent
+
+pub few_facets : (units : List ℤ) → ill_counted units ≡ false → length units / 9 ≤ most_facets
+unfolding facets_of
+few_facets units e = ltb-false most_facets (facets_of units) (or_no_second (not (eqb (length units % 9) 0)) (ltb most_facets (facets_of units)) e)
 
 -- ---- it is the answer of `rules`
 
@@ -67,7 +76,7 @@ left_by_code (Err Room) units lent = refl
 pub told_writing : (units : List ℤ) (lent : List ℕ) {a : Result (Unit {0}) Refusal} → a ≡ writing units (length lent) → {left : List ℕ} → left ≡ left_by a units lent → told a left ≡ write_facets units lent
 unfolding writing write_tests write_facets
 told_writing units lent {a} is {left} e =
-    let v = first_match_lem (not (eqb (length units % 9) 0) || ltb most_facets (facets_of units)) (lowest (length units) (stray_in units)) (ltb (length lent) (file_length (facets_of units))) in
+    let v = first_match_lem (ill_counted units) (lowest (length units) (stray_in units)) (ltb (length lent) (file_length (facets_of units))) in
     ap (told a) (e ∙ left_by_code a units lent)
     ∙ ap (λ (w : Verdict). record { verdict = w; left = cond (eqb w.code 0) (written (file_of units) lent) lent }) (ap verdict_of is ∙ v)
 
@@ -76,7 +85,7 @@ told_writing units lent {a} is {left} e =
 pub done_writable : (units : List ℤ) (room : ℕ) → writing units room ≡ Ok tt → Writable units room
 unfolding writing write_tests verdict_of
 done_writable units room e =
-    let v = first_match_lem (not (eqb (length units % 9) 0) || ltb most_facets (facets_of units)) (lowest (length units) (stray_in units)) (ltb room (file_length (facets_of units))) in
+    let v = first_match_lem (ill_counted units) (lowest (length units) (stray_in units)) (ltb room (file_length (facets_of units))) in
     (wrote_exactly units room).0 (ap (λ (w : Verdict). w.code) (sym v) ∙ ap (λ (w : Result (Unit {0}) Refusal). (verdict_of w).code) e)
 
 pub all_in : {units : List ℤ} {room : ℕ} → Writable units room → AllIn units

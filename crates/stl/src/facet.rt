@@ -26,6 +26,7 @@ fn put_zeros(file: &mut [u8], place: usize, count: usize)
     file[place..place + count].fill(0);
 }
 
+// Three corners go as three parameters: what `put_facet` takes and asks of them may not change.
 fn put_corners(file: &mut [u8], place: usize, a: Corner, b: Corner, c: Corner)
     requires { (place + 36 ≤ length file.old) × Numbers a × Numbers b × Numbers c }
     ensures { file.new ≡ sets file.old place (corners_bytes a b c) }

@@ -31,7 +31,7 @@ impl From<OffGrid> for Refusal {
     }
 }
 
-// The normal and the u16 are zero.
+// The normal and the u16 are zero. Here and below a facet goes as its file and its number, as in `rules`: a struct of both would be no plainer.
 fn is_blank(file: &[u8], facet: usize) -> bool
     requires { (facet_at facet + 50 ≤ length file.now) × (facet < most_facets) }
     ensures { result ≡ blank file.now facet }

@@ -7,7 +7,7 @@ ghost use Rattle.rules.specs.Job.{written};
 ghost use Rattle.rules.specs.Stl.{facet_at, facet_bytes, file_length, facets_of, file_of, most_facets, write_facets};
 ghost use Rattle.values.specs.Places.{place_of};
 ghost use Rattle.stl.specs.Corners.{corner_in};
-ghost use Rattle.stl.specs.Writing.{AllIn, stray_in, told, writing};
+ghost use Rattle.stl.specs.Writing.{AllIn, stray_in, ill_counted, told, writing};
 
 use crate::corner::{Corner, corner_of};
 use crate::facet::{put_facet, put_front};
@@ -65,18 +65,23 @@ fn first_stray(units: &[i16]) -> Option<usize>
     (0..units.len()).find(|&k| !is_in_range(units[k]))
 }
 
+fn is_ill_counted(units: &[i16]) -> bool
+    ensures { result ≡ ill_counted units.now }
+{
+    units.len() % 9 != 0 || units.len() / 9 > 4096
+}
+
 // What is answered to the list and so much room.
 fn judge(units: &[i16], room: usize) -> Result<(), Refusal>
     ensures { result ≡ writing units.now room }
 {
-    let facets = units.len() / 9;
-    if units.len() % 9 != 0 || facets > 4096 {
+    if is_ill_counted(units) {
         return Err(Refusal::Facets);
     }
     if let Some(k) = first_stray(units) {
         return Err(Refusal::Number(k));
     }
-    if room < 84 + 50 * facets {
+    if room < 84 + 50 * (units.len() / 9) {
         return Err(Refusal::Room);
     }
     Ok(())

@@ -1,7 +1,7 @@
 use Rattle.std.proofs.Common.{◌∙◌, ap, ℕ, ◌+◌, ◌-◌, replicate, arith, length-take-le, length-drop}
 use Rattle.std.proofs.lemmas.List.{length-replicate}
 use Rattle.std.proofs.Math.ListN.{drop}
-use Rattle.stl.specs.Stores.{stored}
+use Rattle.words.specs.Stores.{stored}
 use Rattle.stl.proofs.facet.put_zeros.Goals as goal
 
 pub returns : goal.returns
