@@ -4,7 +4,7 @@ use Rattle.std.proofs.Math.Path.{refl}
 use Rattle.std.proofs.Common.{sym, ap, ◌∙◌, arith, lit<, eqb-true, eq-eqb, ltb-true}
 use Rattle.std.proofs.Math.Logic.{⊎_elim}
 use mathlib.Core.List.{List, [], ◌∷◌, flatten}
-use Prim.Native.Nat.{ℕ, zero, suc, ◌+◌, ◌-◌, ◌*◌, ◌<◌}
+use Prim.Native.Nat.{ℕ, zero, suc, ◌+◌, ◌*◌, ◌<◌}
 use Rattle.std.proofs.lemmas.Bool.{not-true}
 use Rattle.rules.specs.Below.{any, all, lowest, bit, sum, count, gather, tabulate, only, pick}
 use Rattle.rules.specs.Shape.{triangle_table, edge_table, opposite_table, vertices}
@@ -24,7 +24,7 @@ opposite_corner e k = get_or (flatten opposite_table) (2 * e + k) 0
 
 -- the position of the edge opposite each
 unfoldable pub opposite_edge : ℕ → ℕ
-opposite_edge e = 5 - e
+opposite_edge e = get_or (5 ∷ 4 ∷ 3 ∷ 2 ∷ 1 ∷ 0 ∷ []) e 0
 
 -- No corner of the edge is left out by a skin triangle: the edge is in each of them. `p c` says that the triangle that leaves out c is on the skin.
 unfoldable pub in_both : (ℕ → Bool) → ℕ → Bool

@@ -1,15 +1,14 @@
 -- Faces that are free of the other side: edges asked of their ids, vertices of the corner tallies.
-use Rattle.std.specs.Prelude.{◌≡◌, refl, Bool, true, false, ◌&&◌, cond, [], ◌∷◌, ℕ, ◌+◌, ◌≤◌, ◌<◌, eqb}
+use Rattle.std.specs.Prelude.{◌≡◌, refl, Bool, true, false, ◌&&◌, cond, [], ◌∷◌, ℕ, ◌<◌, eqb}
 use Rattle.std.proofs.Math.Path.{sym, ap}
-use Rattle.std.proofs.Common.{◌∙◌, arith}
+use Rattle.std.proofs.Common.{◌∙◌}
 use Rattle.std.proofs.Math.Bool.{not, and-true}
 use Rattle.std.specs.Bool.{beq}
-use Rattle.rules.specs.Below.{any, all}
+use Rattle.rules.specs.Below.{any}
 use Rattle.rules.specs.Table.{Table, holds, holds_face}
 use Rattle.rules.specs.Cases.{free}
 use Rattle.rules.specs.Work.{tally}
-use Rattle.rules.specs.Laws.Truth.{and_both}
-use Rattle.rules.specs.Laws.Below.{all_more, any_here, any_same, all_each, each_all}
+use Rattle.rules.specs.Laws.Below.{any_here, any_same}
 use Rattle.rules.specs.Laws.Work.{tally_none}
 
 pub other_side_lem : (inside adding : Bool) → beq inside adding ≡ cond adding inside (not inside)
@@ -44,11 +43,3 @@ module _ (t : Table) (other : ℕ → Bool) where
 pub none_free : (t : Table) (other : ℕ → Bool) (r c : ℕ) → eqb (tally t other (t.id r c)) 0 ≡ vertex_free t other r c
 unfolding vertex_free free holds_face
 none_free t other r c = tally_none t other (t.id r c) ∙ ap not (any_same t.rows _ _ (λ s _. ap (λ (b : Bool). other s && b) (sym (and-true (holds t s (t.id r c))))))
-
--- ---- asked corner by corner
-
-pub all_yet : (i : ℕ) (p : ℕ → Bool) → all i p ≡ true → p i ≡ true → all (i + 1) p ≡ true
-all_yet i p e t = rw all_more (and_both e t)
-
-pub all_of_them : (n i : ℕ) (p : ℕ → Bool) → all i p ≡ true → n ≤ i → true ≡ all n p
-all_of_them n i p e l = sym (each_all n p (λ k m. all_each i p e k (omega arith)))

@@ -16,11 +16,13 @@ pub(crate) fn edge_corner(edge: usize, k: usize) -> usize
 }
 
 // The edge opposite each, by position.
+static OPPOSITES: [u8; 6] = [5, 4, 3, 2, 1, 0];
+
 fn opposite(edge: usize) -> usize
     requires { edge < 6 }
     ensures { result ≡ opposite_edge edge }
 {
-    5 - edge
+    OPPOSITES[edge] as usize
 }
 
 pub(crate) fn opposite_corner(edge: usize, k: usize) -> usize
