@@ -1,5 +1,5 @@
 -- What is said of an STL file: its facets, or why it is refused.
-use Rattle.std.specs.Prelude.{ℕ, ◌*◌, ◌≡◌, Bool, not, cond, List, [], ◌∷◌, eqb, Float, ℤ, pos, length, replicate}
+use Rattle.std.specs.Prelude.{ℕ, ◌*◌, ◌≡◌, Result, Ok, Err, Bool, true, false, not, cond, List, [], ◌∷◌, eqb, Float, ℤ, pos, length, replicate}
 use Rattle.std.proofs.Math.Option.{Option, some, none}
 use Rattle.rules.specs.Job.{written}
 use Rattle.rules.specs.Stl.{most_facets, units_in, Read, read_file}
@@ -24,6 +24,16 @@ file_refused bytes = not (eqb (read_file bytes zeros).verdict.code 0)
 -- nine units a line; or `refused` and those numbers
 unfoldable pub file_said : List ℕ → List ℕ
 file_said bytes = cond (file_refused bytes) (line word_refused (refusal (read_file bytes zeros))) (facets_text (units_in bytes))
+
+-- ---- what is said: the size of a text that is printed, or of the line of a refusal
+
+abbrev pub size_in : Result ℕ ℕ → ℕ
+size_in (Ok size) = size
+size_in (Err size) = size
+
+abbrev pub refuses : Result ℕ ℕ → Bool
+refuses (Ok size) = false
+refuses (Err size) = true
 
 -- a text, and whether it is the line of a refusal: it stands at the front of a buffer, and its size and that are told
 pub record Says (text : List ℕ) (refuses : Bool) (before : List ℕ) (size : ℕ) (no : Bool) (after : List ℕ) : Type 0 where

@@ -1,8 +1,8 @@
 // The reading side: an STL file on standard input has its facets printed, nine units a line.
 ghost use Rattle.std.specs.Prelude.{◌≤◌, length};
-ghost use Rattle.workshop.specs.Said.{file_said, file_refused, Says};
+ghost use Rattle.workshop.specs.Said.{file_said, file_refused, Says, size_in, refuses};
 
-use crate::said::{Said, refused, refused_off, say};
+use crate::said::{Said, refused, refused_off, say, tell_script};
 use lines::facets::{FACETS_ROOM, list_facets};
 use std::rt::HostRuntime;
 use stl::reader::{Reading, read_file};
@@ -12,14 +12,11 @@ use streams::input::read_input;
 // Writes what is to be said of a file to the front of a buffer.
 fn list_file(file: &[u8], out: &mut [u8]) -> Said
     requires { 258048 ≤ length out.old }
-    ensures { Says (file_said file.now) (file_refused file.now) out.old result.size result.refused out.new }
+    ensures { Says (file_said file.now) (file_refused file.now) out.old (size_in result) (refuses result) out.new }
 {
     let mut units = [0i16; 36864];
     match read_file(file, &mut units) {
-        Reading::Facets(count) => Said {
-            size: list_facets(&units[..9 * (count as usize)], out),
-            refused: false,
-        },
+        Reading::Facets(count) => Ok(list_facets(&units[..9 * (count as usize)], out)),
         Reading::Length => refused(1, 0, out),
         Reading::Header => refused(2, 0, out),
         Reading::Room => refused(3, 0, out),
@@ -40,11 +37,8 @@ pub(crate) fn print_facets(rt: &HostRuntime) {
         }
     };
     let mut out = [0u8; FACETS_ROOM];
-    let said = list_file(&file[..count], &mut out);
-    say(
-        rt,
-        &out[..said.size],
-        said.refused,
-        b"stl: the facets could not be printed",
-    );
+    match list_file(&file[..count], &mut out) {
+        Ok(size) => say(rt, &out[..size], b"stl: the facets could not be printed"),
+        Err(size) => tell_script(rt, &out[..size]),
+    }
 }

@@ -1,9 +1,9 @@
 // The writing side: a job on standard input has its skin printed as binary STL.
 ghost use Rattle.std.specs.Prelude.{◌≡◌, length};
-ghost use Rattle.workshop.specs.Said.{Says};
+ghost use Rattle.workshop.specs.Said.{Says, size_in, refuses};
 ghost use Rattle.workshop.specs.Skin.{skin_said, skin_refused};
 
-use crate::said::{Said, refused, say};
+use crate::said::{Said, refused, say, tell_script};
 use std::rt::HostRuntime;
 use streams::failure::fail;
 use streams::input::read_input;
@@ -12,7 +12,7 @@ use track_stl::write_skin;
 // Writes what is to be said of a job to the front of a buffer that has room for the longest file.
 fn put_skin(job: &[u8], file: &mut [u8]) -> Said
     requires { 204884 ≡ length file.old }
-    ensures { Says (skin_said job.now) (skin_refused job.now) file.old result.size result.refused file.new }
+    ensures { Says (skin_said job.now) (skin_refused job.now) file.old (size_in result) (refuses result) file.new }
 {
     let mut answers = [0u8; 1024];
     let mut final_marks = [0u8; 2048];
@@ -29,10 +29,7 @@ fn put_skin(job: &[u8], file: &mut [u8]) -> Said
     if r.code != 0 {
         return refused(r.code, r.place, file);
     }
-    Said {
-        size: 84 + 50 * r.triangles,
-        refused: false,
-    }
+    Ok(84 + 50 * r.triangles)
 }
 
 // Of a longer input the first 65,536 bytes are read. No job is as long, so it is refused, and `skin_enough` says that its front gets the
@@ -47,11 +44,8 @@ pub(crate) fn print_skin(rt: &HostRuntime) {
         }
     };
     let mut file = [0u8; 204884];
-    let said = put_skin(&job[..count], &mut file);
-    say(
-        rt,
-        &file[..said.size],
-        said.refused,
-        b"stl: the file could not be written",
-    );
+    match put_skin(&job[..count], &mut file) {
+        Ok(size) => say(rt, &file[..size], b"stl: the file could not be written"),
+        Err(size) => tell_script(rt, &file[..size]),
+    }
 }
