@@ -3,7 +3,7 @@
 
 ghost use Rattle.std.specs.Prelude.{◌≡◌, ◌+◌, ◌*◌, ◌≤◌, ◌<◌, length};
 ghost use Rattle.rules.specs.First.{first_match};
-ghost use Rattle.rules.specs.Job.{track, header_word, most_ids, most_rows, most_proposals, within, within_limits, laid_out, rows_at, marks_at, proposals_at, points_at, has_points, asks_outward, point_bytes, whole_length, work_room, list_room, short_rooms, layout_tests};
+ghost use Rattle.rules.specs.Job.{track, header_word, most_ids, most_rows, most_proposals, within_limits, laid_out, rows_at, marks_at, proposals_at, points_at, has_points, asks_outward, point_bytes, whole_length, work_room, list_room, short_rooms, layout_tests};
 ghost use Rattle.job.specs.Reading.{meant, header, verdict_of, header_in};
 
 use words::word_at;
@@ -14,18 +14,19 @@ pub struct Header {
     pub ids: usize,
     pub rows: usize,
     pub proposals: usize,
+    // A number, and no enum: the methods promise what they do of every word 7, so what may not change keeps it.
     pub mode: usize,
 }
 
+// The first of the refusals 1 to 3 that a job meets.
 #[derive(Clone, Copy)]
-pub enum Reading {
+pub enum Refused {
     // Under 32 bytes.
     Short,
     // V, N or P outside its limits.
     Limits,
     // A word 3 to 7 differs from the table of the header, or word 6 from the length lent.
     Layout,
-    Laid(Header),
 }
 
 impl Header {
@@ -44,9 +45,9 @@ impl Header {
     fn within_limits(self) -> bool
         ensures { result ≡ within_limits track (meant self) }
     {
-        between(Self::LEAST_IDS, self.ids, Self::MOST_IDS)
-            & between(Self::LEAST_ROWS, self.rows, Self::MOST_ROWS)
-            & between(Self::LEAST_PROPOSALS, self.proposals, Self::MOST_PROPOSALS)
+        (Self::LEAST_IDS..=Self::MOST_IDS).contains(&self.ids)
+            & (Self::LEAST_ROWS..=Self::MOST_ROWS).contains(&self.rows)
+            & (Self::LEAST_PROPOSALS..=Self::MOST_PROPOSALS).contains(&self.proposals)
     }
 
     // Where the rows stand.
@@ -126,12 +127,6 @@ impl Header {
     }
 }
 
-fn between(least: usize, n: usize, greatest: usize) -> bool
-    ensures { result ≡ within least n greatest }
-{
-    (least <= n) & (n <= greatest)
-}
-
 // Word i of the header.
 fn header_word(job: &[u8], i: usize) -> usize
     requires { (i < 8) × (rows_at ≤ length job.now) }
@@ -166,20 +161,20 @@ fn laid_out(h: Header, job: &[u8]) -> bool
 }
 
 // The header, or the first of the refusals 1 to 3.
-pub fn read(job: &[u8]) -> Reading
+pub fn read(job: &[u8]) -> Result<Header, Refused>
     ensures { (verdict_of result ≡ first_match 1 (layout_tests track job.now)) × (header_in result (header job.now) ≡ header job.now) }
 {
     if job.len() < 32 {
-        return Reading::Short;
+        return Err(Refused::Short);
     }
     let h = header_of(job);
     if !h.within_limits() {
-        return Reading::Limits;
+        return Err(Refused::Limits);
     }
     if !laid_out(h, job) {
-        return Reading::Layout;
+        return Err(Refused::Layout);
     }
-    Reading::Laid(h)
+    Ok(h)
 }
 
 // Room for fewer answers, final marks, triangle words or work words than the job needs: code 4.
