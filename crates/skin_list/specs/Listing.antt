@@ -1,28 +1,27 @@
 -- The skin list, place by place: place p is the triangle of row p / 4 that leaves out corner p % 4.
-use Rattle.std.specs.Prelude.{◌≡◌, refl, Bool, true, false, not, ◌&&◌, cond, ℕ, suc, ◌+◌, ◌*◌, ◌/◌, ◌%◌, ◌≤◌, ◌<◌, length, get_or, set}
+use Rattle.std.specs.Prelude.{◌≡◌, refl, Bool, true, false, ◌&&◌, cond, ℕ, suc, ◌+◌, ◌*◌, ◌/◌, ◌%◌, ◌≤◌, ◌<◌, length, set}
 use Rattle.std.proofs.Math.Path.{sym, ap}
-use Rattle.std.proofs.Common.{◌∙◌, le_antisymm, le_trans, mod-lt, add-one, arith, lit<, length-append}
+use Rattle.std.proofs.Common.{◌∙◌, le_antisymm, mod-lt, add-one, arith, lit<, length-append}
 use Rattle.std.proofs.Math.Logic.{⊎_elim}
-use Rattle.std.proofs.Math.Option.{some}
 use mathlib.Core.List.{List, [], ◌∷◌, ◌++◌, flatten, append-nil}
 use Rattle.std.proofs.lemmas.List.Edits.{sets}
 use Rattle.std.proofs.Math.Seq.{length-sets}
 use Rattle.rules.specs.Below.{gather, only}
 use Rattle.rules.specs.Table.{Table}
 use Rattle.rules.specs.Skin.{on_skin, triangle, skin_as}
-use Rattle.rules.specs.Points.{Point}
-use Rattle.rules.specs.Outward.{right_way, exchanged, triangle_as}
+use Rattle.rules.specs.Outward.{exchanged, triangle_as}
 use Rattle.rules.specs.Proposals.{inside_in}
 use Rattle.rules.specs.Job.{written}
 use Rattle.rules.specs.Laws.Truth.{true_or_false}
 use Rattle.rules.specs.Laws.Lists.{gather_more, gather_grows, flatten_snoc}
-use Rattle.rules.specs.Laws.Places.{row_below}
 use Rattle.rules.specs.Laws.Written.{written_none, written_run}
 use Rattle.rules.specs.Reading.Room.{skin_same_length, at_most_2_n, skin_by_place}
 use Rattle.table.specs.Rows.{id_in, table_in, rows_in}
 use Rattle.table.specs.Faces.{corner_of}
-use Rattle.table.specs.Ground.{Ground, neighbour_below, neighbour_listed}
-use Rattle.skin.specs.Between.{between, between_skin}
+use Rattle.skin_list.specs.declared.order.Order.{Order}
+use Rattle.skin_list.specs.declared.order.Order.TheVariants.{Rising, Outward}
+use Rattle.skin_list.specs.Orders.{rows_of, points_of, is_turned}
+use Rattle.rules.specs.Reading.Closed.{Paired}
 use Rattle.points.specs.Sides.{triangle_ids}
 
 -- ---- a triangle
@@ -83,18 +82,10 @@ module _ (bytes marks : List ℕ) (ids : ℕ → ℕ → List ℕ) where
         l.front ∙ ap (λ (xs : List (List ℕ)). written (flatten xs) triangles₀) whole,
       )
 
--- a place is in the neighbour list, and the rows on both sides have marks
-pub place_fits : {bytes neighbours : List ℕ} {ids : ℕ} → Ground bytes neighbours ids → (marks : List ℕ) → rows_in bytes ≤ length marks → (place : ℕ) → place < 4 * rows_in bytes
-    → (4 * (place / 4) + place % 4 < length neighbours) × (place / 4 < length marks) × (get_or neighbours (4 * (place / 4) + place % 4) 0 < length marks)
-place_fits {bytes} on_ground marks room place here =
-    let row : place / 4 < rows_in bytes = row_below {m = 4} (lit< tt) (rows_in bytes) place here in
-    let corner : place % 4 < 4 = mod-lt place (lit< tt) in
-    (neighbour_listed on_ground (place / 4) (place % 4) row corner, le_trans row room, le_trans (neighbour_below on_ground (place / 4) (place % 4) row corner) room)
-
-module _ {bytes neighbours : List ℕ} {id_count : ℕ} (ground : Ground bytes neighbours id_count) (marks : List ℕ) (ids : ℕ → ℕ → List ℕ) (threes : (r c : ℕ) → c < 4 → length (ids r c) ≡ 3)
+module _ {bytes : List ℕ} {id_count : ℕ} (paired : Paired (table_in bytes) id_count) (marks : List ℕ) (ids : ℕ → ℕ → List ℕ) (threes : (r c : ℕ) → c < 4 → length (ids r c) ≡ 3)
     {place n : ℕ} {triangles triangles₀ : List ℕ} (l : Listing bytes marks ids place n triangles triangles₀)
     (here : place < 4 * rows_in bytes) (room : 6 * rows_in bytes ≤ length triangles₀)
-    {listed : Bool} (el : listed ≡ (inside_in marks (place / 4) && between neighbours marks (place / 4) (place % 4))) where
+    {listed : Bool} (el : listed ≡ (inside_in marks (place / 4) && on_skin (table_in bytes) (inside_in marks) (place / 4) (place % 4))) where
   abbrev to : ℕ → List (List ℕ)
   to = listed_to bytes marks ids
 
@@ -105,8 +96,7 @@ module _ {bytes neighbours : List ℕ} {id_count : ℕ} (ground : Ground bytes n
   unfolding listed_at it
   more =
       gather_more place (listed_at bytes marks ids)
-      ∙ ap (λ (b : Bool). to place ++ only b it)
-      (sym (el ∙ ap (λ (b : Bool). inside_in marks (place / 4) && b) (between_skin ground (place / 4) (place % 4) (row_below {m = 4} (lit< tt) (rows_in bytes) place here) (mod-lt place (lit< tt)) marks)))
+      ∙ ap (λ (b : Bool). to place ++ only b it) (sym el)
 
   module _ (on : listed ≡ true) where
     one_more : to (place + 1) ≡ to place ++ it ∷ []
@@ -129,7 +119,7 @@ module _ {bytes neighbours : List ℕ} {id_count : ℕ} (ground : Ground bytes n
           gather_grows (place + 1) (4 * rows_in bytes) (listed_at bytes marks ids) (omega arith),
           ap length (whole_list bytes marks ids),
           skin_same_length (table_in bytes) (inside_in marks) ids,
-          at_most_2_n (table_in bytes) (inside_in marks) ground.paired refl,
+          at_most_2_n (table_in bytes) (inside_in marks) paired refl,
         )
 
     found : Listing bytes marks ids (place + 1) (n + 1) (sets triangles (3 * n) it) triangles₀
@@ -162,7 +152,8 @@ module _ {bytes neighbours : List ℕ} {id_count : ℕ} (ground : Ground bytes n
 -- ---- outward, where it is asked for
 
 -- rising ids are the wrong way, of a triangle that is listed
-pub turned_order : {listed turned : Bool} (outward : Bool) (t : Table) (at : ℕ → Point) (r c : ℕ) → turned ≡ (listed && outward && not (right_way t at r c)) → listed ≡ true
-    → in_order turned t r c ≡ triangle_as t outward (some at) r c
+pub turned_order : {listed turned : Bool} (order : Order) (r c : ℕ) → turned ≡ (listed && is_turned order r c) → listed ≡ true
+    → in_order turned (table_in (rows_of order)) r c ≡ triangle_as (table_in (rows_of order)) true (points_of order) r c
 unfolding triangle_as
-turned_order outward t at r c e on = rw (e, on)
+turned_order (Rising t) r c e on = rw (e, on)
+turned_order (Outward p) r c e on = rw (e, on)

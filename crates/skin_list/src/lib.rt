@@ -1,26 +1,25 @@
 // The skin list: the triangles between an inside row and an outside row, three ids each.
 #![tactic(auto)]
 
-ghost use Rattle.std.specs.Prelude.{◌≡◌, true, not, ◌&&◌, cond, ◌+◌, ◌*◌, ◌/◌, ◌≤◌, ◌<◌, length, get_or, set};
-ghost use Rattle.std.proofs.Math.Option.{some};
+pub mod order;
+
+ghost use Rattle.std.specs.Prelude.{◌≡◌, true, not, ◌&&◌, cond, ◌+◌, ◌*◌, ◌≤◌, ◌<◌, length, set};
 ghost use mathlib.Core.List.{flatten};
 ghost use Rattle.std.proofs.lemmas.List.Edits.{sets};
-ghost use Rattle.rules.specs.Skin.{skin_as};
-ghost use Rattle.rules.specs.Points.{point_in};
-ghost use Rattle.rules.specs.Outward.{right_way, triangle_as};
+ghost use Rattle.rules.specs.Skin.{on_skin, skin_as};
+ghost use Rattle.rules.specs.Outward.{triangle_as};
 ghost use Rattle.rules.specs.Proposals.{inside_in};
 ghost use Rattle.rules.specs.Job.{written};
 ghost use Rattle.table.specs.Rows.{id_in, table_in, rows_in};
 ghost use Rattle.table.specs.Faces.{corner_of};
-ghost use Rattle.table.specs.Ground.{Ground};
-ghost use Rattle.points.specs.Grid.{Grid};
-ghost use Rattle.skin.specs.Between.{between};
 ghost use Rattle.skin_list.specs.Listing.{in_order};
+ghost use Rattle.skin_list.specs.Orders.{rows_of, points_of, is_turned};
 
-use points::right_way;
+use order::Order;
 use skin::{is_between, is_inside};
+use table::checked::Table;
 use table::faces::corner_at;
-use table::{id_at, row_count};
+use table::id_at;
 use values::choose;
 
 // An id of the triangle of a row that leaves out a corner.
@@ -43,20 +42,20 @@ fn put_ids(triangles: &mut [u32], at: usize, a: u32, b: u32, c: u32)
 fn put(
     listed: bool,
     turned: bool,
-    rows: &[u8],
+    table: Table,
     row: usize,
     corner: usize,
     triangles: &mut [u32],
     n: usize,
 ) -> usize
-    requires { (row < rows_in rows.now) × (corner < 4) × (listed ≡ true → 3 * n + 3 ≤ length triangles.old) }
+    requires { (row < rows_in table.rows.now) × (corner < 4) × (listed ≡ true → 3 * n + 3 ≤ length triangles.old) }
     ensures { (result ≡ cond listed (n + 1) n)
-        × (triangles.new ≡ cond listed (sets triangles.old (3 * n) (in_order turned (table_in rows.now) row corner)) triangles.old) }
+        × (triangles.new ≡ cond listed (sets triangles.old (3 * n) (in_order turned (table_in table.entry.rows.now) row corner)) triangles.old) }
 {
     if listed {
-        let a = triangle_id(rows, row, corner, 0);
-        let b = triangle_id(rows, row, corner, choose(turned, 2, 1));
-        let c = triangle_id(rows, row, corner, choose(turned, 1, 2));
+        let a = triangle_id(table.rows, row, corner, 0);
+        let b = triangle_id(table.rows, row, corner, choose(turned, 2, 1));
+        let c = triangle_id(table.rows, row, corner, choose(turned, 1, 2));
         put_ids(triangles, 3 * n, a, b, c);
         return n + 1;
     }
@@ -64,53 +63,40 @@ fn put(
 }
 
 // The row is inside, and its triangle that leaves out the corner is on the skin.
-fn is_listed(neighbours: &[u32], marks: &[u8], row: usize, corner: usize) -> bool
-    requires { (4 * row + corner < length neighbours.now) × (row < length marks.now) × (get_or neighbours.now (4 * row + corner) 0 < length marks.now) }
-    ensures { result ≡ (inside_in marks.now row && between neighbours.now marks.now row corner) }
+fn is_listed(table: Table, marks: &[u8], row: usize, corner: usize) -> bool
+    requires { (row < rows_in table.rows.now) × (corner < 4) × (rows_in table.rows.now ≤ length marks.now) }
+    ensures { result ≡ (inside_in marks.now row && on_skin (table_in table.entry.rows.now) (inside_in marks.now) row corner) }
 {
-    is_inside(marks, row) && is_between(neighbours, marks, row, corner)
+    is_inside(marks, row) && is_between(table.neighbours, marks, row, corner)
 }
 
 // The triangle is listed, outward, and rising ids are the wrong way.
-fn is_turned(
-    asked: bool,
-    rows: &[u8],
-    neighbours: &[u32],
-    points: &[u8],
-    ids: usize,
-    row: usize,
-    corner: usize,
-) -> bool
-    requires { Ground rows.now neighbours.now ids × (asked ≡ true → Grid points.now ids) × (row < rows_in rows.now) × (corner < 4) }
-    ensures { result ≡ (asked && not (right_way (table_in rows.now) (point_in points.now) row corner)) }
+fn is_turned(listed: bool, order: Order, row: usize, corner: usize) -> bool
+    requires { (row < rows_in (rows_of order)) × (corner < 4) }
+    ensures { result ≡ (listed && is_turned order.entry row corner) }
 {
-    asked && !right_way(rows, neighbours, points, ids, row, corner)
+    match order {
+        Order::Rising(_) => false,
+        Order::Outward(placed) => listed && !placed.right_way(row, corner),
+    }
 }
 
 // Writes the skin to the front of the triangles, row by row and by left-out corner, rising or outward, and tells how many triangles it
-// has. Where outward is not asked for, no point is read. The number of triangles listed stands beside their buffer: the C interface lends it.
-pub fn list_skin(
-    rows: &[u8],
-    neighbours: &[u32],
-    marks: &[u8],
-    points: &[u8],
-    ids: usize,
-    outward: bool,
-    triangles: &mut [u32],
-) -> usize
-    requires { Ground rows.now neighbours.now ids × (rows_in rows.now ≤ length marks.now) × (6 * rows_in rows.now ≤ length triangles.old)
-        × (outward ≡ true → Grid points.now ids) }
-    ensures { (result ≡ length (skin_as (table_in rows.now) (inside_in marks.now) (triangle_as (table_in rows.now) outward (some (point_in points.now)))))
-        × (triangles.new ≡ written (flatten (skin_as (table_in rows.now) (inside_in marks.now) (triangle_as (table_in rows.now) outward (some (point_in points.now))))) triangles.old) }
+// has. The number of triangles listed stands beside their buffer: the C interface lends it.
+pub fn list_skin(order: Order, marks: &[u8], triangles: &mut [u32]) -> usize
+    requires { (rows_in (rows_of order) ≤ length marks.now) × (6 * rows_in (rows_of order) ≤ length triangles.old) }
+    ensures { (result ≡ length (skin_as (table_in (rows_of order.entry)) (inside_in marks.now) (triangle_as (table_in (rows_of order.entry)) true (points_of order.entry))))
+        × (triangles.new ≡ written (flatten (skin_as (table_in (rows_of order.entry)) (inside_in marks.now) (triangle_as (table_in (rows_of order.entry)) true (points_of order.entry)))) triangles.old) }
 {
-    let end = 4 * row_count(rows);
+    let table = order.table();
+    let end = 4 * table.row_count();
     let mut n = 0;
     for place in 0..end {
         let row = place / 4;
         let corner = place % 4;
-        let listed = is_listed(neighbours, marks, row, corner);
-        let turned = is_turned(listed & outward, rows, neighbours, points, ids, row, corner);
-        n = put(listed, turned, rows, row, corner, triangles, n);
+        let listed = is_listed(table, marks, row, corner);
+        let turned = is_turned(listed, order, row, corner);
+        n = put(listed, turned, table, row, corner, triangles, n);
     }
     n
 }

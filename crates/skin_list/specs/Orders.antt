@@ -1,0 +1,30 @@
+-- The order in which the ids of a triangle are listed, by what tells it.
+use Rattle.std.specs.Prelude.{List, ℕ, Bool, false, not}
+use Rattle.rules.specs.Outward.{right_way}
+use Rattle.rules.specs.Reading.Closed.{Paired}
+use Rattle.table.specs.Rows.{table_in}
+use Rattle.table.specs.Tested.{grounded_of}
+use Rattle.std.proofs.Math.Option.{Option, some, none}
+use Rattle.rules.specs.Points.{Point, point_in}
+use Rattle.skin_list.specs.declared.order.Order.{Order}
+use Rattle.skin_list.specs.declared.order.Order.TheVariants.{Rising, Outward}
+
+-- the bytes of its rows
+abbrev pub rows_of : Order → List ℕ
+rows_of (Rising t) = t.rows.now
+rows_of (Outward p) = p.table.rows.now
+
+-- the points by which a triangle is listed outward, or none
+abbrev pub points_of : Order → Option (ℕ → Point)
+points_of (Rising t) = none
+points_of (Outward p) = some (point_in p.points.now)
+
+-- rising ids are the wrong way
+abbrev pub is_turned : Order → ℕ → ℕ → Bool
+is_turned (Rising t) r c = false
+is_turned (Outward p) r c = not (right_way (table_in p.table.rows.now) (point_in p.points.now) r c)
+
+-- its rows keep rules 5 to 7 below some V
+pub paired_of : (order : Order) → (ids : ℕ) × Paired (table_in (rows_of order)) ids
+paired_of (Rising t) = let (ids, on_ground) = grounded_of t.tested in (ids, on_ground.paired)
+paired_of (Outward p) = let (ids, on_ground) = grounded_of p.table.tested in (ids, on_ground.paired)
