@@ -1,7 +1,7 @@
 -- The skin list, place by place: place p is the triangle of row p / 4 that leaves out corner p % 4.
 use Rattle.std.specs.Prelude.{◌≡◌, refl, Bool, true, false, not, ◌&&◌, cond, ℕ, suc, ◌+◌, ◌*◌, ◌/◌, ◌%◌, ◌≤◌, ◌<◌, length, get_or, set}
 use Rattle.std.proofs.Math.Path.{sym, ap}
-use Rattle.std.proofs.Common.{◌∙◌, le_antisymm, le_trans, mod-lt, add-one, arith, lit<, length-append}
+use Rattle.std.proofs.Common.{◌∙◌, le_trans, mod-lt, add-one, arith, lit<, length-append}
 use Rattle.std.proofs.Math.Logic.{⊎_elim}
 use Rattle.std.proofs.Math.Option.{some}
 use mathlib.Core.List.{List, [], ◌∷◌, ◌++◌, flatten, append-nil}
@@ -65,7 +65,6 @@ module _ (bytes marks : List ℕ) (ids : ℕ → ℕ → List ℕ) where
 
   -- before a place: n triangles stand at the front
   pub record Listing (place n : ℕ) (triangles triangles₀ : List ℕ) : Type 0 where
-    pub upto : place ≤ 4 * rows_in bytes
     pub kept : length triangles ≡ length triangles₀
     pub counted : n ≡ length (listed_to place)
     pub words : 3 * n ≡ length (flatten (listed_to place))
@@ -73,12 +72,12 @@ module _ (bytes marks : List ℕ) (ids : ℕ → ℕ → List ℕ) where
 
   pub list_begins : (triangles : List ℕ) → Listing 0 0 triangles triangles
   unfolding gather flatten
-  list_begins triangles = record { upto = omega arith; kept = refl; counted = refl; words = refl; front = written_none triangles }
+  list_begins triangles = record { kept = refl; counted = refl; words = refl; front = written_none triangles }
 
-  pub list_ends : {place n : ℕ} {triangles triangles₀ : List ℕ} → Listing place n triangles triangles₀ → 4 * rows_in bytes ≤ place
+  pub list_ends : {place n : ℕ} {triangles triangles₀ : List ℕ} → Listing place n triangles triangles₀ → place ≡ 4 * rows_in bytes
       → (n ≡ length (skin_as (table_in bytes) (inside_in marks) ids)) × (triangles ≡ written (flatten (skin_as (table_in bytes) (inside_in marks) ids)) triangles₀)
   list_ends {place} {triangles₀ = triangles₀} l m =
-      let whole = ap listed_to (le_antisymm l.upto m) ∙ whole_list in (
+      let whole = ap listed_to m ∙ whole_list in (
         l.counted ∙ ap length whole,
         l.front ∙ ap (λ (xs : List (List ℕ)). written (flatten xs) triangles₀) whole,
       )
@@ -134,7 +133,6 @@ module _ {bytes neighbours : List ℕ} {id_count : ℕ} (ground : Ground bytes n
 
     found : Listing bytes marks ids (place + 1) (n + 1) (sets triangles (3 * n) it) triangles₀
     found = record {
-      upto = omega arith;
       kept = length-sets triangles (3 * n) it ∙ l.kept;
       counted = n_more;
       words = omega (arith, l.words, three, ap length flat, length-append (flatten (to place)) it);
@@ -150,7 +148,7 @@ module _ {bytes neighbours : List ℕ} {id_count : ℕ} (ground : Ground bytes n
   unfolding only
   passed off =
       let same = more ∙ ap (λ (b : Bool). to place ++ only b it) off ∙ append-nil (to place) in
-      record { upto = omega arith; kept = l.kept; counted = rw same l.counted; words = rw same l.words; front = rw same l.front }
+      record { kept = l.kept; counted = rw same l.counted; words = rw same l.words; front = rw same l.front }
 
   -- one place more; what is put is the triangle in its order, if it is listed at all
   pub list_turn : {n' : ℕ} {put triangles' : List ℕ} → n' ≡ cond listed (n + 1) n → (listed ≡ true → put ≡ ids (place / 4) (place % 4))

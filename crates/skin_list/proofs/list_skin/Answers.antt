@@ -25,4 +25,4 @@ loop-place-preserved c =
     c.is_listed-listed.ensures c.put-n.ensures.0 (turned_order _ _ _ _ _ c.is_turned-turned.ensures) c.put-n.ensures.1
 
 pub returns : goal.returns
-returns c = list_ends _ _ _ c.loop-place.invariant (omega (arith, c.row_count-end.ensures, c.loop-place-test.false))
+returns c = list_ends _ _ _ c.loop-place.invariant (omega (arith, c.row_count-end.ensures, c.loop-place-test.false, c.loop-place.auto.place-end))
