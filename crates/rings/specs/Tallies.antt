@@ -1,7 +1,7 @@
 -- The skin triangles at a vertex, counted place by place: how many there are, and the last of their places.
 use Rattle.std.specs.Prelude.{◌≡◌, ◌⊎◌, ◌≢◌, Bool, not, ◌&&◌, ◌||◌, List, ℕ, ◌+◌, ◌*◌, ◌/◌, ◌%◌, ◌≤◌, ◌<◌, length, get_or, set, replicate}
 use Rattle.std.proofs.Math.Path.{refl}
-use Rattle.std.proofs.Common.{sym, ◌∙◌, inl, inr, ⊎_elim, mod-lt, arith, lit<, length-set, get_or-set_same, get_or-set_other}
+use Rattle.std.proofs.Common.{sym, ap, ◌∙◌, inl, inr, ⊎_elim, mod-lt, arith, lit<, length-set, get_or-set_same, get_or-set_other}
 use Rattle.std.proofs.Math.Bool.{true, false, cond, and-false}
 use Rattle.std.proofs.Math.Dec.{eqb}
 use Rattle.std.proofs.lemmas.List.{length-replicate, get_or-replicate}
@@ -11,9 +11,10 @@ use Rattle.rules.specs.Proposals.{inside_in}
 use Rattle.rules.specs.Job.{most_ids}
 use Rattle.rules.specs.Laws.Truth.{same_or_not}
 use Rattle.rules.specs.Laws.Count.{bit_one, bit_zero, count_more, count_not}
-use Rattle.rules.specs.Laws.Highest.{highest, highest_more}
+use Rattle.rules.specs.Laws.Highest.{highest, highest_more, highest_small}
 use Rattle.rules.specs.Laws.Places.{row_below}
 use Rattle.table.specs.declared.faces.Face.{Face}
+use Rattle.rings.specs.declared.tallies.Tally.{Tally}
 use Rattle.table.specs.Rows.{table_in, rows_in}
 use Rattle.table.specs.Faces.{corner_of, face_of, corner_below}
 use Rattle.table.specs.Ground.{neighbour_below, neighbour_listed}
@@ -33,6 +34,9 @@ module _ {bytes marks : List ℕ} {v p total place : ℕ} (w : Tallied bytes mar
   pub tally_few : total ≤ p
   tally_few = omega (arith, w.counted, count_not p (shown_at (table_in bytes) (inside_in marks) v))
 
+  pub tally_low : place ≤ p
+  tally_low = rw w.last (highest_small p (shown_at (table_in bytes) (inside_in marks) v))
+
   pub tally_ends : {q : ℕ} → p ≡ q → Tallied bytes marks v q total place
   tally_ends e = rw (← e) w
 
@@ -48,17 +52,19 @@ pub one_small : (on : Bool) {one : ℕ} → one ≡ cond on 1 0 → one ≤ 1
 one_small true e = omega arith
 one_small false e = omega arith
 
--- the same of every id
-pub record Tallies (bytes marks : List ℕ) (p : ℕ) (counts places : List ℕ) : Type 0 where
-  pub counts_long : length counts ≡ most_ids
-  pub places_long : length places ≡ most_ids
-  pub each : (v : ℕ) → v < most_ids → Tallied bytes marks v p (get_or counts v 0) (get_or places v 0)
+-- no skin triangle yet
+abbrev pub unmet : Tally
+unmet = record { count = 0; place = 0 }
 
-pub tallies_begin : (bytes marks : List ℕ) → Tallies bytes marks 0 (replicate most_ids 0) (replicate most_ids 0)
+-- the same of every id
+pub record Tallies (bytes marks : List ℕ) (p : ℕ) (tallies : List Tally) : Type 0 where
+  pub long : length tallies ≡ most_ids
+  pub each : (v : ℕ) → v < most_ids → Tallied bytes marks v p (get_or tallies v unmet).count (get_or tallies v unmet).place
+
+pub tallies_begin : (bytes marks : List ℕ) → Tallies bytes marks 0 (replicate most_ids unmet)
 tallies_begin bytes marks = record {
-  counts_long = length-replicate {A = ℕ} most_ids 0;
-  places_long = length-replicate {A = ℕ} most_ids 0;
-  each = λ v l. rw (get_or-replicate {A = ℕ} most_ids v 0 0 l) (tally_begins bytes marks v);
+  long = length-replicate {A = Tally} most_ids unmet;
+  each = λ v l. rw (get_or-replicate {A = Tally} most_ids v unmet unmet l) (tally_begins bytes marks v);
 }
 
 -- ---- one place
@@ -107,22 +113,26 @@ module _ {bytes neighbours marks : List ℕ} {ids : ℕ} (m : Marked bytes neigh
 -- ---- the tallies after one place
 
 -- one skin triangle more at an id
-abbrev pub more : ℕ → List ℕ → List ℕ
-more id counts = set counts id (get_or counts id 0 + 1)
+abbrev pub met : ℕ → ℕ → List Tally → List Tally
+met id place tallies = set tallies id (record { count = (get_or tallies id unmet).count + 1; place = place })
 
-more_at : (counts : List ℕ) (a v : ℕ) → a < length counts → get_or (more a counts) v 0 ≡ get_or counts v 0 + bit (eqb a v)
-more_at counts a v l = ⊎_elim here there (same_or_not v a)
-  where
-    here : v ≡ a → get_or (more a counts) v 0 ≡ get_or counts v 0 + bit (eqb a v)
-    here e = rw (e, get_or-set_same counts a (get_or counts a 0 + 1) 0 l, bit_one (eq-eqb a a refl))
+module _ (tallies : List Tally) (a v p : ℕ) (l : a < length tallies) where
+  abbrev now : Tally
+  now = record { count = (get_or tallies a unmet).count + 1; place = p }
 
-    there : v ≢ a → get_or (more a counts) v 0 ≡ get_or counts v 0 + bit (eqb a v)
-    there ne = omega (arith, get_or-set_other counts a v (get_or counts a 0 + 1) 0 ne, bit_zero (ne_eqb a v (λ (e : a ≡ v). ne (sym e))))
+  count_at : (get_or (met a p tallies) v unmet).count ≡ (get_or tallies v unmet).count + bit (eqb a v)
+  count_at = ⊎_elim here there (same_or_not v a)
+    where
+      here : v ≡ a → (get_or (met a p tallies) v unmet).count ≡ (get_or tallies v unmet).count + bit (eqb a v)
+      here e = rw (e, get_or-set_same tallies a now unmet l, bit_one (eq-eqb a a refl))
 
-put_at : (places : List ℕ) (a v p : ℕ) → a < length places → get_or (set places a p) v 0 ≡ cond (eqb a v) p (get_or places v 0)
-put_at places a v p l =
-    ⊎_elim (λ (e : v ≡ a). rw (e, get_or-set_same places a p 0 l, eq-eqb a a refl))
-    (λ ne. rw (get_or-set_other places a v p 0 ne, ne_eqb a v (λ (e : a ≡ v). ne (sym e)))) (same_or_not v a)
+      there : v ≢ a → (get_or (met a p tallies) v unmet).count ≡ (get_or tallies v unmet).count + bit (eqb a v)
+      there ne = omega (arith, ap (λ (t : Tally). t.count) (get_or-set_other tallies a v now unmet ne), bit_zero (ne_eqb a v (λ (e : a ≡ v). ne (sym e))))
+
+  place_at : (get_or (met a p tallies) v unmet).place ≡ cond (eqb a v) p (get_or tallies v unmet).place
+  place_at =
+      ⊎_elim (λ (e : v ≡ a). rw (e, get_or-set_same tallies a now unmet l, eq-eqb a a refl))
+      (λ ne. rw (get_or-set_other tallies a v now unmet ne, ne_eqb a v (λ (e : a ≡ v). ne (sym e)))) (same_or_not v a)
 
 module _ (f : Face) (v : ℕ) (ab : f.a < f.b) (bc : f.b < f.c) where
   ids_once : bit (eqb f.a v) + bit (eqb f.b v) + bit (eqb f.c v) ≡ cond (in_face f v) 1 0
@@ -153,72 +163,80 @@ module _ (f : Face) (v : ℕ) (ab : f.a < f.b) (bc : f.b < f.c) where
       go false false true = refl
       go false false false = refl
 
-module _ {bytes marks : List ℕ} {p : ℕ} {counts places : List ℕ} (w : Tallies bytes marks p counts places) where
-  pub tallies_end : {q : ℕ} → p ≡ q → Tallies bytes marks q counts places
+module _ {bytes marks : List ℕ} {p : ℕ} {tallies : List Tally} (w : Tallies bytes marks p tallies) where
+  pub tallies_end : {q : ℕ} → p ≡ q → Tallies bytes marks q tallies
   tallies_end e = rw (← e) w
 
   -- the place shows nothing
-  pub tallies_pass : ((v : ℕ) → shown_at (table_in bytes) (inside_in marks) v p ≡ false) → Tallies bytes marks (p + 1) counts places
+  pub tallies_pass : ((v : ℕ) → shown_at (table_in bytes) (inside_in marks) v p ≡ false) → Tallies bytes marks (p + 1) tallies
   tallies_pass off = record {
-    counts_long = w.counts_long;
-    places_long = w.places_long;
+    long = w.long;
     each = λ v l. tally_more (w.each v l) {on = false} (sym (off v)) (omega arith) refl;
   }
 
   module _ {f : Face} (fits : (f.a < f.b) × (f.b < f.c) × (f.c < most_ids)) where
-    abbrev once : List ℕ
-    once = more f.a counts
+    abbrev once : List Tally
+    once = met f.a p tallies
 
-    abbrev twice : List ℕ
-    twice = more f.b once
+    abbrev twice : List Tally
+    twice = met f.b p once
 
-    long : (xs : List ℕ) (i x : ℕ) → length xs ≡ most_ids → length (set xs i x) ≡ most_ids
-    long xs i x e = length-set xs i x ∙ e
+    once_long : length once ≡ most_ids
+    once_long = length-set tallies f.a _ ∙ w.long
+
+    twice_long : length twice ≡ most_ids
+    twice_long = length-set once f.b _ ∙ once_long
 
     -- a tally is at most the number of places before
-    pub room_one : get_or counts f.a 0 ≤ p
+    pub room_one : (get_or tallies f.a unmet).count ≤ p
     room_one = tally_few (w.each f.a (omega (arith, fits.0, fits.1, fits.2)))
 
-    pub room_two : get_or once f.b 0 ≤ p
+    pub room_two : (get_or once f.b unmet).count ≤ p
     room_two =
-        rw (get_or-set_other counts f.a f.b (get_or counts f.a 0 + 1) 0 (λ (e : f.b ≡ f.a). omega (arith, e, fits.0)))
+        rw (get_or-set_other tallies f.a f.b _ unmet (λ (e : f.b ≡ f.a). omega (arith, e, fits.0)))
         (tally_few (w.each f.b (omega (arith, fits.1, fits.2))))
 
-    pub room_three : get_or twice f.c 0 ≤ p
+    pub room_three : (get_or twice f.c unmet).count ≤ p
     room_three =
-        rw (get_or-set_other once f.b f.c (get_or once f.b 0 + 1) 0 (λ (e : f.c ≡ f.b). omega (arith, e, fits.1)), get_or-set_other counts f.a f.c (get_or counts f.a 0 + 1) 0 (λ (e : f.c ≡ f.a). omega (arith, e, fits.0, fits.1)))
+        rw (get_or-set_other once f.b f.c _ unmet (λ (e : f.c ≡ f.b). omega (arith, e, fits.1)), get_or-set_other tallies f.a f.c _ unmet (λ (e : f.c ≡ f.a). omega (arith, e, fits.0, fits.1)))
         (tally_few (w.each f.c fits.2))
 
     -- the place shows a triangle
-    pub tallies_meet : ((v : ℕ) → shown_at (table_in bytes) (inside_in marks) v p ≡ in_face f v)
-        → Tallies bytes marks (p + 1) (more f.c twice) (set (set (set places f.a p) f.b p) f.c p)
+    pub tallies_meet : ((v : ℕ) → shown_at (table_in bytes) (inside_in marks) v p ≡ in_face f v) → Tallies bytes marks (p + 1) (met f.c p twice)
     tallies_meet on = record {
-      counts_long = long twice f.c _ (long once f.b _ (long counts f.a _ w.counts_long));
-      places_long = long (set (set places f.a p) f.b p) f.c p (long (set places f.a p) f.b p (long places f.a p w.places_long));
+      long = length-set twice f.c _ ∙ twice_long;
       each = λ v l. tally_more (w.each v l) {on = in_face f v} (sym (on v)) (counted v) (placed v);
     }
       where
-        counted : (v : ℕ) → get_or (more f.c twice) v 0 ≡ get_or counts v 0 + cond (in_face f v) 1 0
+        a_fits : f.a < length tallies
+        a_fits = rw w.long (omega (arith, fits.0, fits.1, fits.2))
+
+        b_fits : f.b < length once
+        b_fits = rw once_long (omega (arith, fits.1, fits.2))
+
+        c_fits : f.c < length twice
+        c_fits = rw twice_long fits.2
+
+        counted : (v : ℕ) → (get_or (met f.c p twice) v unmet).count ≡ (get_or tallies v unmet).count + cond (in_face f v) 1 0
         counted v =
             omega (
               arith,
-              more_at twice f.c v (rw (long once f.b (get_or once f.b 0 + 1) (long counts f.a (get_or counts f.a 0 + 1) w.counts_long)) fits.2),
-              more_at once f.b v (rw (long counts f.a (get_or counts f.a 0 + 1) w.counts_long) (omega (arith, fits.1, fits.2))),
-              more_at counts f.a v (rw w.counts_long (omega (arith, fits.0, fits.1, fits.2))),
+              count_at twice f.c v p c_fits,
+              count_at once f.b v p b_fits,
+              count_at tallies f.a v p a_fits,
               ids_once f v fits.0 fits.1,
             )
 
-        placed : (v : ℕ) → get_or (set (set (set places f.a p) f.b p) f.c p) v 0 ≡ cond (in_face f v) p (get_or places v 0)
+        placed : (v : ℕ) → (get_or (met f.c p twice) v unmet).place ≡ cond (in_face f v) p (get_or tallies v unmet).place
         placed v =
-            put_at (set (set places f.a p) f.b p) f.c v p (rw (long (set places f.a p) f.b p (long places f.a p w.places_long)) fits.2)
-            ∙ rw (put_at (set places f.a p) f.b v p (rw (long places f.a p w.places_long) (omega (arith, fits.1, fits.2))), put_at places f.a v p (rw w.places_long (omega (arith, fits.0, fits.1, fits.2))))
-            (last_put f v fits.0 fits.1 p (get_or places v 0))
+            place_at twice f.c v p c_fits
+            ∙ rw (place_at once f.b v p b_fits, place_at tallies f.a v p a_fits) (last_put f v fits.0 fits.1 p (get_or tallies v unmet).place)
 
 -- a row that is outside shows nothing
-pub tallies_skip : {bytes marks : List ℕ} (r : ℕ) {counts places : List ℕ} → inside_in marks r ≡ false → Tallies bytes marks (4 * r) counts places → Tallies bytes marks (4 * (r + 1)) counts places
+pub tallies_skip : {bytes marks : List ℕ} (r : ℕ) {tallies : List Tally} → inside_in marks r ≡ false → Tallies bytes marks (4 * r) tallies → Tallies bytes marks (4 * (r + 1)) tallies
 unfolding shown
-tallies_skip {bytes} {marks} r {counts} {places} off w =
+tallies_skip {bytes} {marks} r {tallies} off w =
     tallies_end (pass (4 * r + 1 + 1 + 1) (omega arith) (pass (4 * r + 1 + 1) (omega arith) (pass (4 * r + 1) (omega arith) (pass (4 * r) (omega arith) w)))) (omega arith)
   where
-    pass : (p : ℕ) → p / 4 ≡ r → Tallies bytes marks p counts places → Tallies bytes marks (p + 1) counts places
+    pass : (p : ℕ) → p / 4 ≡ r → Tallies bytes marks p tallies → Tallies bytes marks (p + 1) tallies
     pass p e t = tallies_pass t (λ v. rw (e, off))

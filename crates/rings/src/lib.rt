@@ -14,15 +14,15 @@ ghost use Rattle.rings.specs.Far.{Marked};
 ghost use Rattle.rings.specs.Tallies.{Tallies};
 
 use ring::is_ring;
-use tallies::{tally_all, tally_one};
+use tallies::{Tally, tally_all, tally_one};
 
 // The far edges of a vertex form one ring.
 pub fn one_ring(rows: &[u8], neighbours: &[u32], marks: &[u8], ids: usize, vertex: usize) -> bool
     requires { Marked rows.now neighbours.now marks.now ids }
     ensures { result ≡ one_ring (table_in rows.now) (inside_in marks.now) ids vertex }
 {
-    let t = tally_one(rows, neighbours, marks, ids, vertex);
-    is_ring(rows, neighbours, marks, ids, 0, vertex, t.count, t.place)
+    let tally = tally_one(rows, neighbours, marks, ids, vertex);
+    is_ring(rows, neighbours, marks, ids, 0, vertex, tally)
 }
 
 // The lowest vertex without one ring, by the tallies of all. A vertex that is not on the skin has no far edges, and so one ring.
@@ -31,17 +31,20 @@ fn first_ringless(
     neighbours: &[u32],
     marks: &[u8],
     ids: usize,
-    counts: &[u16; 1024],
-    places: &[u16; 1024],
+    tallies: &[Tally; 1024],
 ) -> Option<usize>
-    requires { Marked rows.now neighbours.now marks.now ids × Tallies rows.now marks.now (4 * rows_in rows.now) counts.now places.now }
+    requires { Marked rows.now neighbours.now marks.now ids × Tallies rows.now marks.now (4 * rows_in rows.now) tallies.now }
     ensures { place_of result ≡ lowest ids (ringless (table_in rows.now) (inside_in marks.now) ids) }
 {
-    (0..ids).find(|&vertex| {
-        let total = counts[vertex] as usize;
-        let place = places[vertex] as usize;
-        !is_ring(rows, neighbours, marks, ids, vertex, vertex, total, place)
-    })
+    (0..ids).find(|&vertex| !is_ring(
+        rows,
+        neighbours,
+        marks,
+        ids,
+        vertex,
+        vertex,
+        tallies[vertex],
+    ))
 }
 
 // The lowest skin vertex without one ring.
@@ -49,8 +52,7 @@ pub fn ringless_vertex(rows: &[u8], neighbours: &[u32], marks: &[u8], ids: usize
     requires { Marked rows.now neighbours.now marks.now ids }
     ensures { place_of result ≡ lowest ids (ringless (table_in rows.now) (inside_in marks.now) ids) }
 {
-    let mut counts = [0u16; 1024];
-    let mut places = [0u16; 1024];
-    tally_all(rows, neighbours, marks, ids, &mut counts, &mut places);
-    first_ringless(rows, neighbours, marks, ids, &counts, &places)
+    let mut tallies = [Tally { count: 0, place: 0 }; 1024];
+    tally_all(rows, neighbours, marks, ids, &mut tallies);
+    first_ringless(rows, neighbours, marks, ids, &tallies)
 }

@@ -9,6 +9,7 @@ ghost use Rattle.rings.specs.Far.{first_end, shown_at, Marked};
 ghost use Rattle.rings.specs.Tallies.{Tallied};
 ghost use Rattle.rings.specs.Follow.{SkinEdge, RingsBelow, two_far, LandedAt};
 
+use crate::tallies::Tally;
 use round::{Stop, onward, turn};
 use table::across_at;
 use table::faces::Face;
@@ -121,21 +122,29 @@ pub(crate) fn is_ring(
     ids: usize,
     low: usize,
     vertex: usize,
-    total: usize,
-    place: usize,
+    tally: Tally,
 ) -> bool
-    requires { Marked rows.now neighbours.now marks.now ids × RingsBelow (table_in rows.now) (inside_in marks.now) ids low × Tallied rows.now marks.now vertex (4 * rows_in rows.now) total place }
+    requires { Marked rows.now neighbours.now marks.now ids × RingsBelow (table_in rows.now) (inside_in marks.now) ids low × Tallied rows.now marks.now vertex (4 * rows_in rows.now) tally.count tally.place }
     ensures { result ≡ one_ring (table_in rows.now) (inside_in marks.now) ids vertex }
 {
-    if total == 0 {
+    if tally.count == 0 {
         return true;
     }
-    let row = place / 4;
-    let corner = place % 4;
+    let row = tally.place as usize / 4;
+    let corner = tally.place as usize % 4;
     let start = Landing {
         inner: row,
         outer: across_at(neighbours, row, corner),
         end: first_end(Face::of(rows, row, corner), vertex),
     };
-    follow(rows, neighbours, marks, ids, low, vertex, start, total)
+    follow(
+        rows,
+        neighbours,
+        marks,
+        ids,
+        low,
+        vertex,
+        start,
+        tally.count as usize,
+    )
 }

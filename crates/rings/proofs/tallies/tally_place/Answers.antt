@@ -20,17 +20,17 @@ pub meet-requires-2 : goal.meet-requires-2
 meet-requires-2 c =
     let given = c.requires in
     let fits = face_fits given.0 given.1 c.of-f.ensures in
-    (omega (arith, fits.1, fits.2), omega (arith, given.0.ground.few, given.1), rw c.meet.ensures.0 (omega (arith, room_two given.3 fits, given.0.ground.few, given.1)))
+    (omega (arith, fits.1, fits.2), omega (arith, given.0.ground.few, given.1), rw c.meet.ensures (omega (arith, room_two given.3 fits, given.0.ground.few, given.1)))
 
 pub meet-requires-3 : goal.meet-requires-3
 meet-requires-3 c =
     let given = c.requires in
     let fits = face_fits given.0 given.1 c.of-f.ensures in
-    (fits.2, omega (arith, given.0.ground.few, given.1), rw (c.meet-2.ensures.0, c.meet.ensures.0) (omega (arith, room_three given.3 fits, given.0.ground.few, given.1)))
+    (fits.2, omega (arith, given.0.ground.few, given.1), rw (c.meet-2.ensures, c.meet.ensures) (omega (arith, room_three given.3 fits, given.0.ground.few, given.1)))
 
 pub returns : goal.returns
 returns c =
     let given = c.requires in
     let fits = face_fits given.0 given.1 c.of-f.ensures in
-    rw (c.meet-3.ensures.0, c.meet-3.ensures.1, c.meet-2.ensures.0, c.meet-2.ensures.1, c.meet.ensures.0, c.meet.ensures.1)
+    rw (c.meet-3.ensures, c.meet-2.ensures, c.meet.ensures)
     (tallies_meet given.3 fits (shown_both given.0 given.1 c.of-f.ensures given.2 c.is_between.ensures (ap not c.if-not-is_between.false)))

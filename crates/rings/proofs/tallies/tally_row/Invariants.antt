@@ -3,4 +3,4 @@ use Rattle.rings.specs.Tallies.{Tallies}
 use Rattle.rings.proofs.tallies.tally_row.Given as goal
 
 abbrev pub invariant-loop-place : goal.invariant-loop-place
-invariant-loop-place l = (4 * l.row ≤ l.place) × Tallies l.rows l.marks l.place l.counts l.places
+invariant-loop-place l = (4 * l.row ≤ l.place) × Tallies l.rows l.marks l.place l.tallies
