@@ -23,8 +23,4 @@ loop-place-preserved c =
     (rw c.table-table.ensures at c.is_listed-listed.ensures) c.put-n.ensures.0 (turned_order c.args.order _ _ c.is_turned-turned.ensures) (rw c.table-table.ensures at c.put-n.ensures.1)
 
 pub returns : goal.returns
-<<<<<<< HEAD
 returns c = list_ends _ _ _ c.loop-place.invariant (omega (arith, rw (c.row_count-end.ensures, c.table-table.ensures) at c.loop-place-test.false))
-=======
-returns c = list_ends _ _ _ c.loop-place.invariant (omega (arith, c.row_count-end.ensures, c.loop-place-test.false, c.loop-place.auto.place-end))
->>>>>>> 11795cbb2dd6a337b4a7a40051e4a7810ab52652
