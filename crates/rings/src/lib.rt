@@ -1,6 +1,7 @@
 // Rings: whether the far edges of a skin vertex form one ring.
 #![tactic(auto)]
 
+pub mod marked;
 mod ring;
 mod tallies;
 
@@ -10,49 +11,32 @@ ghost use Rattle.rules.specs.Skin.{one_ring, ringless};
 ghost use Rattle.rules.specs.Proposals.{inside_in};
 ghost use Rattle.values.specs.Places.{place_of};
 ghost use Rattle.table.specs.Rows.{table_in, rows_in};
-ghost use Rattle.rings.specs.Far.{Marked};
 ghost use Rattle.rings.specs.Tallies.{Tallies};
 
+use marked::Marked;
 use ring::is_ring;
 use tallies::{Tally, tally_all, tally_one};
 
 // The far edges of a vertex form one ring.
-pub fn one_ring(rows: &[u8], neighbours: &[u32], marks: &[u8], ids: usize, vertex: usize) -> bool
-    requires { Marked rows.now neighbours.now marks.now ids }
-    ensures { result ≡ one_ring (table_in rows.now) (inside_in marks.now) ids vertex }
+pub fn one_ring(marked: Marked, vertex: usize) -> bool
+    ensures { result ≡ one_ring (table_in marked.entry.table.rows.now) (inside_in marked.entry.marks.now) marked.entry.ids vertex }
 {
-    let tally = tally_one(rows, neighbours, marks, ids, vertex);
-    is_ring(rows, neighbours, marks, ids, 0, vertex, tally)
+    is_ring(marked, 0, vertex, tally_one(marked, vertex))
 }
 
 // The lowest vertex without one ring, by the tallies of all. A vertex that is not on the skin has no far edges, and so one ring.
-fn first_ringless(
-    rows: &[u8],
-    neighbours: &[u32],
-    marks: &[u8],
-    ids: usize,
-    tallies: &[Tally; 1024],
-) -> Option<usize>
-    requires { Marked rows.now neighbours.now marks.now ids × Tallies rows.now marks.now (4 * rows_in rows.now) tallies.now }
-    ensures { place_of result ≡ lowest ids (ringless (table_in rows.now) (inside_in marks.now) ids) }
+fn first_ringless(marked: Marked, tallies: &[Tally; 1024]) -> Option<usize>
+    requires { Tallies marked.table.rows.now marked.marks.now (4 * rows_in marked.table.rows.now) tallies.now }
+    ensures { place_of result ≡ lowest marked.entry.ids (ringless (table_in marked.entry.table.rows.now) (inside_in marked.entry.marks.now) marked.entry.ids) }
 {
-    (0..ids).find(|&vertex| !is_ring(
-        rows,
-        neighbours,
-        marks,
-        ids,
-        vertex,
-        vertex,
-        tallies[vertex],
-    ))
+    (0..marked.ids).find(|&vertex| !is_ring(marked, vertex, vertex, tallies[vertex]))
 }
 
 // The lowest skin vertex without one ring.
-pub fn ringless_vertex(rows: &[u8], neighbours: &[u32], marks: &[u8], ids: usize) -> Option<usize>
-    requires { Marked rows.now neighbours.now marks.now ids }
-    ensures { place_of result ≡ lowest ids (ringless (table_in rows.now) (inside_in marks.now) ids) }
+pub fn ringless_vertex(marked: Marked) -> Option<usize>
+    ensures { place_of result ≡ lowest marked.entry.ids (ringless (table_in marked.entry.table.rows.now) (inside_in marked.entry.marks.now) marked.entry.ids) }
 {
     let mut tallies = [Tally { count: 0, place: 0 }; 1024];
-    tally_all(rows, neighbours, marks, ids, &mut tallies);
-    first_ringless(rows, neighbours, marks, ids, &tallies)
+    tally_all(marked, &mut tallies);
+    first_ringless(marked, &tallies)
 }

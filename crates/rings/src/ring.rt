@@ -5,13 +5,13 @@ ghost use Rattle.rules.specs.Skin.{one_ring};
 ghost use Rattle.rules.specs.Proposals.{inside_in};
 ghost use Rattle.table.specs.Rows.{table_in, rows_in};
 ghost use Rattle.round.specs.Edge.{Turned};
-ghost use Rattle.rings.specs.Far.{first_end, shown_at, Marked};
+ghost use Rattle.rings.specs.Far.{first_end, shown_at};
 ghost use Rattle.rings.specs.Tallies.{Tallied};
 ghost use Rattle.rings.specs.Follow.{SkinEdge, RingsBelow, two_far, LandedAt};
 
+use crate::marked::Marked;
 use crate::tallies::Tally;
-use round::{Stop, onward, turn};
-use table::across_at;
+use round::{Edge, Stop, onward, turn};
 use table::faces::Face;
 use values::choose;
 
@@ -25,51 +25,38 @@ pub(crate) struct Landing {
 
 // The end lies on two far edges of the vertex: about their common edge one comes through the outside rows to the skin triangle that one comes
 // to through the inside rows. For an end below `low` the ring of that end has told it.
-fn is_two(
-    rows: &[u8],
-    neighbours: &[u32],
-    marks: &[u8],
-    ids: usize,
-    low: usize,
-    vertex: usize,
-    from: Landing,
-    within: Stop,
-) -> bool
-    requires { Marked rows.now neighbours.now marks.now ids × RingsBelow (table_in rows.now) (inside_in marks.now) ids low
-        × SkinEdge (table_in rows.now) (inside_in marks.now) vertex from.end from.inner from.outer
-        × Turned (table_in rows.now) (inside_in marks.now) vertex from.end from.outer from.inner within.at within.next }
-    ensures { result ≡ two_far (table_in rows.now) (inside_in marks.now) ids vertex from.end }
+fn is_two(marked: Marked, low: usize, vertex: usize, from: Landing, within: Stop) -> bool
+    requires { RingsBelow (table_in marked.table.rows.now) (inside_in marked.marks.now) marked.ids low
+        × SkinEdge (table_in marked.table.rows.now) (inside_in marked.marks.now) vertex from.end from.inner from.outer
+        × Turned (table_in marked.table.rows.now) (inside_in marked.marks.now) vertex from.end from.outer from.inner within.at within.next }
+    ensures { result ≡ two_far (table_in marked.entry.table.rows.now) (inside_in marked.entry.marks.now) marked.entry.ids vertex from.end }
 {
     if from.end < low {
         return true;
     }
-    let without = turn(
-        rows, neighbours, marks, vertex, from.end, from.inner, from.outer,
-    );
+    let edge = Edge {
+        a: vertex,
+        b: from.end,
+    };
+    let without = turn(marked.table, marked.marks, edge, from.inner, from.outer);
     (without.next == within.at) & (without.at == within.next)
 }
 
 // From a skin triangle about the edge of the vertex and its end to the next one, through the inside rows; none if the edge is in a further one.
-fn turn_at(
-    rows: &[u8],
-    neighbours: &[u32],
-    marks: &[u8],
-    ids: usize,
-    low: usize,
-    vertex: usize,
-    from: Landing,
-) -> Option<Landing>
-    requires { Marked rows.now neighbours.now marks.now ids × RingsBelow (table_in rows.now) (inside_in marks.now) ids low
-        × SkinEdge (table_in rows.now) (inside_in marks.now) vertex from.end from.inner from.outer }
-    ensures { LandedAt (table_in rows.now) (inside_in marks.now) ids vertex from.end from.inner from.outer result }
+fn turn_at(marked: Marked, low: usize, vertex: usize, from: Landing) -> Option<Landing>
+    requires { RingsBelow (table_in marked.table.rows.now) (inside_in marked.marks.now) marked.ids low
+        × SkinEdge (table_in marked.table.rows.now) (inside_in marked.marks.now) vertex from.end from.inner from.outer }
+    ensures { LandedAt (table_in marked.entry.table.rows.now) (inside_in marked.entry.marks.now) marked.entry.ids vertex from.end from.inner from.outer result }
 {
-    let to = turn(
-        rows, neighbours, marks, vertex, from.end, from.outer, from.inner,
-    );
-    if !is_two(rows, neighbours, marks, ids, low, vertex, from, to) {
+    let edge = Edge {
+        a: vertex,
+        b: from.end,
+    };
+    let to = turn(marked.table, marked.marks, edge, from.outer, from.inner);
+    if !is_two(marked, low, vertex, from, to) {
         return None;
     }
-    let way = onward(rows, neighbours, vertex, from.end, to.next, to.at);
+    let way = onward(marked.table, edge, to.next, to.at);
     Some(Landing {
         inner: to.at,
         outer: to.next,
@@ -79,25 +66,16 @@ fn turn_at(
 
 // From a skin triangle of the vertex round to its first end. The far edges form one ring exactly if each end lies on two of them and as many
 // ends are turned at as the vertex has skin triangles. No range gives the steps: the walk ends where the first end is ahead again.
-fn follow(
-    rows: &[u8],
-    neighbours: &[u32],
-    marks: &[u8],
-    ids: usize,
-    low: usize,
-    vertex: usize,
-    start: Landing,
-    total: usize,
-) -> bool
-    requires { Marked rows.now neighbours.now marks.now ids × RingsBelow (table_in rows.now) (inside_in marks.now) ids low
-        × SkinEdge (table_in rows.now) (inside_in marks.now) vertex start.end start.inner start.outer
-        × (total ≡ count (4 * rows_in rows.now) (shown_at (table_in rows.now) (inside_in marks.now) vertex)) }
-    ensures { result ≡ one_ring (table_in rows.now) (inside_in marks.now) ids vertex }
+fn follow(marked: Marked, low: usize, vertex: usize, start: Landing, total: usize) -> bool
+    requires { RingsBelow (table_in marked.table.rows.now) (inside_in marked.marks.now) marked.ids low
+        × SkinEdge (table_in marked.table.rows.now) (inside_in marked.marks.now) vertex start.end start.inner start.outer
+        × (total ≡ count (4 * rows_in marked.table.rows.now) (shown_at (table_in marked.table.rows.now) (inside_in marked.marks.now) vertex)) }
+    ensures { result ≡ one_ring (table_in marked.entry.table.rows.now) (inside_in marked.entry.marks.now) marked.entry.ids vertex }
 {
     let mut at = start;
     let mut met = 0;
     while (met == 0) | (at.end != start.end) {
-        let Some(next) = turn_at(rows, neighbours, marks, ids, low, vertex, at) else {
+        let Some(next) = turn_at(marked, low, vertex, at) else {
             return false;
         };
         at = next;
@@ -115,17 +93,9 @@ fn first_end(f: Face, vertex: usize) -> usize
 
 // The far edges of a vertex form one ring. The number of its skin triangles and the last of their places are known, and that the vertices below
 // `low` have one.
-pub(crate) fn is_ring(
-    rows: &[u8],
-    neighbours: &[u32],
-    marks: &[u8],
-    ids: usize,
-    low: usize,
-    vertex: usize,
-    tally: Tally,
-) -> bool
-    requires { Marked rows.now neighbours.now marks.now ids × RingsBelow (table_in rows.now) (inside_in marks.now) ids low × Tallied rows.now marks.now vertex (4 * rows_in rows.now) tally.count tally.place }
-    ensures { result ≡ one_ring (table_in rows.now) (inside_in marks.now) ids vertex }
+pub(crate) fn is_ring(marked: Marked, low: usize, vertex: usize, tally: Tally) -> bool
+    requires { RingsBelow (table_in marked.table.rows.now) (inside_in marked.marks.now) marked.ids low × Tallied marked.table.rows.now marked.marks.now vertex (4 * rows_in marked.table.rows.now) tally.count tally.place }
+    ensures { result ≡ one_ring (table_in marked.entry.table.rows.now) (inside_in marked.entry.marks.now) marked.entry.ids vertex }
 {
     if tally.count == 0 {
         return true;
@@ -134,17 +104,8 @@ pub(crate) fn is_ring(
     let corner = tally.place as usize % 4;
     let start = Landing {
         inner: row,
-        outer: across_at(neighbours, row, corner),
-        end: first_end(Face::of(rows, row, corner), vertex),
+        outer: marked.table.across(row, corner),
+        end: first_end(marked.table.face(row, corner), vertex),
     };
-    follow(
-        rows,
-        neighbours,
-        marks,
-        ids,
-        low,
-        vertex,
-        start,
-        tally.count as usize,
-    )
+    follow(marked, low, vertex, start, tally.count as usize)
 }

@@ -10,14 +10,13 @@ use Rattle.rings.proofs.first_ringless.Goals as goal
 
 pub find-requires-clause-callable : goal.find-requires-clause-callable
 find-requires-clause-callable c =
-    let (marked, tallies) = c.requires in
-    serves_in_turn (λ v. one_ring (table_in c.args.rows.now) (inside_in c.args.marks.now) c.args.ids v ≡ true) (λ x q k. search rules) (λ x a b told y e.
-    let few : y.now < 1024 = omega (arith, b, e, marked.few) in
-    let below : RingsBelow (table_in c.args.rows.now) (inside_in c.args.marks.now) c.args.ids y.now = λ w l. told w zero-le (omega (arith, l, e)) in
-    let tallied = tallies.each y.now few in
-    search (rules, few, below, tallied, marked))
+    serves_in_turn (λ v. one_ring (table_in c.args.marked.table.rows.now) (inside_in c.args.marked.marks.now) c.args.marked.ids v ≡ true) (λ x q k. search rules) (λ x a b told y e.
+    let few : y.now < 1024 = omega (arith, b, e, c.args.marked.tested.3) in
+    let below : RingsBelow (table_in c.args.marked.table.rows.now) (inside_in c.args.marked.marks.now) c.args.marked.ids y.now = λ w l. told w zero-le (omega (arith, l, e)) in
+    let tallied = c.requires.each y.now few in
+    search (rules, few, below, tallied))
 
 pub returns : goal.returns
 returns c =
-    lowest_found _ _ _ (λ v. not (one_ring (table_in c.args.rows.now) (inside_in c.args.marks.now) c.args.ids v)) (search rules) (λ k l. absurd (search rules)) c.find.ensures.ran (λ x q k. search rules) (λ x q k. search rules)
-    ∙ sym (lowest_same c.args.ids (ringless (table_in c.args.rows.now) (inside_in c.args.marks.now) c.args.ids) (λ v. not (one_ring (table_in c.args.rows.now) (inside_in c.args.marks.now) c.args.ids v)) (λ v l. ringless_is (table_in c.args.rows.now) (inside_in c.args.marks.now) c.args.ids v l))
+    lowest_found _ _ _ (λ v. not (one_ring (table_in c.args.marked.table.rows.now) (inside_in c.args.marked.marks.now) c.args.marked.ids v)) (search rules) (λ k l. absurd (search rules)) c.find.ensures.ran (λ x q k. search rules) (λ x q k. search rules)
+    ∙ sym (lowest_same c.args.marked.ids (ringless (table_in c.args.marked.table.rows.now) (inside_in c.args.marked.marks.now) c.args.marked.ids) (λ v. not (one_ring (table_in c.args.marked.table.rows.now) (inside_in c.args.marked.marks.now) c.args.marked.ids v)) (λ v l. ringless_is (table_in c.args.marked.table.rows.now) (inside_in c.args.marked.marks.now) c.args.marked.ids v l))

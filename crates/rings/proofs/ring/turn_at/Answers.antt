@@ -1,4 +1,5 @@
 use Rattle.std.proofs.Common.{refl, sym, ◌∙◌, arith, ap, not}
+use Rattle.rings.specs.Carried.{marked_of}
 use Rattle.rings.specs.Follow.{landed}
 use Rattle.rings.specs.Sides.{between_near}
 use Rattle.std.proofs.lemmas.Bool.{not-true, not-false}
@@ -6,13 +7,14 @@ use Rattle.rings.proofs.ring.turn_at.Goals as goal
 
 pub turn-to-requires : goal.turn-to-requires
 turn-to-requires c =
-    let (marked, _, (_, here)) = c.requires in
-    ((_, marked.ground), omega (arith, marked.each), here.differ.0, between_near marked.closed.paired refl here)
+    let marked = marked_of c.args.marked.table.tested c.args.marked.tested in
+    let (_, (_, here)) = c.requires in
+    (omega (arith, marked.each), here.differ.0, between_near marked.closed.paired refl here)
 
 pub returns-then-not-is_two : goal.returns-then-not-is_two
 returns-then-not-is_two c = sym (not-true c.is_two.result (ap not c.if-not-is_two.true)) ∙ c.is_two.ensures
 
 pub returns : goal.returns
 returns c =
-    let (marked, _, here) = c.requires in
-    rw c.onward-way.ensures.1 (landed marked.closed refl here c.turn-to.ensures (sym (not-false c.is_two.result (ap not c.if-not-is_two.false)) ∙ c.is_two.ensures))
+    let marked = marked_of c.args.marked.table.tested c.args.marked.tested in
+    rw c.onward-way.ensures.1 (landed marked.closed refl c.requires.1 c.turn-to.ensures (sym (not-false c.is_two.result (ap not c.if-not-is_two.false)) ∙ c.is_two.ensures))
