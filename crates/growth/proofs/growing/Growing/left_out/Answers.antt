@@ -1,12 +1,16 @@
 use Rattle.std.proofs.Common.{arith, ◌∙◌}
-use Rattle.growth.specs.Around.{counted_none, counted_small, counted_more}
+use Rattle.growth.specs.Around.{area_surrounds, corner_asked, counted_none, counted_small, counted_more}
+use Rattle.growth.specs.Tested.{area_of}
 use Rattle.tallies.specs.Area.{bit_of}
 use Rattle.rules.specs.Below.{bit}
 use Rattle.rules.specs.Laws.Count.{bit_small}
-use Rattle.growth.proofs.cases.left_out.Goals as goal
+use Rattle.growth.proofs.growing.Growing.left_out.Goals as goal
 
 pub loop-corner-init : goal.loop-corner-init
 loop-corner-init c = counted_none
+
+pub is_between-hit-requires : goal.is_between-hit-requires
+is_between-hit-requires c = corner_asked (area_surrounds (area_of c.args.self.tested) _ c.requires) _ c.loop-corner-test.true
 
 pub overflow_add-count : goal.overflow_add-count
 overflow_add-count c = omega (arith, c.from-count.ensures, bit_of c.is_between-hit.result, bit_small c.is_between-hit.result, counted_small c.loop-corner.invariant)
