@@ -12,7 +12,6 @@ use crate::declined::Declined;
 use crate::edges::{edge_corner, opposite_corner};
 use crate::growing::Growing;
 use round::Edge;
-use skin::is_between;
 use values::choose;
 
 // How many of a row's triangles are on the skin, and the left-out corner of the last of them.
@@ -37,7 +36,7 @@ impl Growing<'_> {
         let mut count = 0;
         let mut last = 0;
         for corner in 0..4 {
-            let hit = is_between(self.work, self.marks, row, corner);
+            let hit = self.on_skin(row, corner);
             count += usize::from(hit);
             last = choose(hit, corner, last);
         }

@@ -6,7 +6,6 @@ ghost use Rattle.skin.specs.Between.{between};
 ghost use Rattle.growth.specs.Edges.{edge_corner, opposite_edge, opposite_corner, in_both};
 
 use crate::growing::Growing;
-use skin::is_between;
 use table::faces::{EDGES_AT, corner_at};
 
 pub(crate) fn edge_corner(edge: usize, k: usize) -> usize
@@ -39,8 +38,7 @@ impl Growing<'_> {
         requires { (row < rows_in self.rows.now) × (edge < 6) }
         ensures { result ≡ in_both (between self.entry.work.now self.entry.marks.now row) edge }
     {
-        !(is_between(self.work, self.marks, row, edge_corner(edge, 0))
-            | is_between(self.work, self.marks, row, edge_corner(edge, 1)))
+        !(self.on_skin(row, edge_corner(edge, 0)) | self.on_skin(row, edge_corner(edge, 1)))
     }
 
     // The position of the edge that two skin triangles share. The edge opposite it is in neither.

@@ -1,4 +1,4 @@
-// Rows of the other side, and vertices that are free of them, by the corner tallies.
+// Vertices that are free of the other side, by the corner tallies.
 ghost use Rattle.std.specs.Prelude.{◌≡◌, ◌<◌};
 ghost use Rattle.rules.specs.Below.{all};
 ghost use Rattle.rules.specs.Cases.{other_side};
@@ -7,19 +7,10 @@ ghost use Rattle.table.specs.Rows.{table_in, rows_in};
 ghost use Rattle.growth.specs.Free.{vertex_free};
 
 use crate::growing::Growing;
-use skin::is_inside;
 use table::id_at;
 use tallies::others_at;
 
 impl Growing<'_> {
-    // For an add the inside rows are the other side, for a remove the outside rows.
-    pub(crate) fn on_other_side(self, adding: bool, row: usize) -> bool
-        requires { row < rows_in self.rows.now }
-        ensures { result ≡ other_side adding (inside_in self.entry.marks.now) row }
-    {
-        is_inside(self.marks, row) == adding
-    }
-
     // No row of the other side holds the vertex at a corner.
     pub(crate) fn vertex_free(self, adding: bool, row: usize, corner: usize) -> bool
         requires { (row < rows_in self.rows.now) × (corner < 4) }

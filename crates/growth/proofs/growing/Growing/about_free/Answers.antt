@@ -1,11 +1,8 @@
-use Rattle.std.proofs.Common.{refl, arith}
+use Rattle.std.proofs.Common.{refl}
 use Rattle.growth.specs.About.{start_touched, about_decides}
 use Rattle.growth.specs.Tested.{area_of}
 use Rattle.round.specs.Edge.{near_at}
 use Rattle.growth.proofs.growing.Growing.about_free.Goals as goal
-
-pub on_other_side-requires : goal.on_other_side-requires
-on_other_side-requires c = c.requires.near.0.0
 
 pub on_other_side-requires-2 : goal.on_other_side-requires-2
 on_other_side-requires-2 c = (near_at (area_of c.args.self.tested).closed.paired refl c.requires.edge _ _ c.requires.near).0
@@ -13,9 +10,6 @@ on_other_side-requires-2 c = (near_at (area_of c.args.self.tested).closed.paired
 pub returns-then-on_other_side : goal.returns-then-on_other_side
 returns-then-on_other_side c =
     start_touched (area_of c.args.self.tested).closed refl c.requires _ _ c.on_other_side.ensures c.on_other_side-2.ensures c.if-on_other_side.true
-
-pub turn-stop-requires : goal.turn-stop-requires
-turn-stop-requires c = rw c.table.ensures.0 (omega (arith, c.args.self.tested.4), c.requires.edge, c.requires.near)
 
 pub returns : goal.returns
 returns c =

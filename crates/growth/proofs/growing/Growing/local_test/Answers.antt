@@ -1,11 +1,8 @@
-use Rattle.std.proofs.Common.{rules, sym, ◌∙◌}
+use Rattle.std.proofs.Common.{rules, ◌∙◌}
 use Rattle.growth.specs.Cases.{case_none, case_one, case_two, case_more}
 use Rattle.growth.specs.Tested.{area_of}
 use Rattle.tallies.specs.Area.{area_ground}
 use Rattle.growth.proofs.growing.Growing.local_test.Goals as goal
-
-pub edge_free-requires : goal.edge_free-requires
-edge_free-requires c = (c.requires, sym c.left_out-skin.ensures.counted ∙ c.in-2.is)
 
 pub returns-in-0 : goal.returns-in-0
 returns-in-0 c =

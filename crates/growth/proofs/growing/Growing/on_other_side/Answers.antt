@@ -1,10 +1,7 @@
-use Rattle.std.proofs.Common.{◌∙◌, arith}
+use Rattle.std.proofs.Common.{◌∙◌}
 use Rattle.growth.specs.Free.{other_side_lem}
 use Rattle.rules.specs.Cases.{other_side}
 use Rattle.growth.proofs.growing.Growing.on_other_side.Goals as goal
-
-pub is_inside-requires : goal.is_inside-requires
-is_inside-requires c = omega (arith, c.args.self.tested.4, c.requires)
 
 pub returns : goal.returns
 unfolding other_side
