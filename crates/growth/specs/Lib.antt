@@ -6,6 +6,7 @@
 --     Declined  why a proposal is declined, and the number of an answer
 --     Cases     the five cases as the code asks them
 --     Answers   one proposal by its tests, and proposals one after the other
+--     Tested    what growing rests on, by equations and bounds
 --     Asked     what `all` answers over a range
 pub mod Free
 pub mod Around
@@ -14,4 +15,5 @@ pub mod About
 pub mod Declined
 pub mod Cases
 pub mod Answers
+pub mod Tested
 pub mod Asked

@@ -9,9 +9,8 @@ ghost use Rattle.tallies.specs.Area.{Area};
 ghost use Rattle.growth.specs.Declined.{answer_of};
 ghost use Rattle.growth.specs.Answers.{proposal};
 
-use crate::cases::local_test;
 use crate::declined::{Declined, answer_of};
-use crate::free::on_other_side;
+use crate::growing::Growing;
 use table::{holds, row_count};
 use tallies::flip_row;
 use words::word_at;
@@ -27,30 +26,24 @@ fn adds(kind: usize) -> Result<bool, Declined>
     }
 }
 
-// The first reason that applies, of answers 1 to 7, or taken: whether the row is added.
-fn answer(
-    rows: &[u8],
-    work: &[u32],
-    ids: usize,
-    marks: &[u8],
-    row: usize,
-    kind: usize,
-) -> Result<bool, Declined>
-    requires { Area rows.now work.now marks.now ids }
-    ensures { (answer_of result ≡ answer (table_in rows.now) marks.now (proposal row kind)) × IfOk result (λ adding. adding ≡ eqb kind 1) }
-{
-    if row >= row_count(rows) {
-        return Err(Declined::Row);
+impl Growing<'_> {
+    // The first reason that applies, of answers 1 to 7, or taken: whether the row is added.
+    fn answer(self, row: usize, kind: usize) -> Result<bool, Declined>
+        ensures { (answer_of result ≡ answer (table_in self.entry.rows.now) self.entry.marks.now (proposal row kind)) × IfOk result (λ adding. adding ≡ eqb kind 1) }
+    {
+        if row >= row_count(self.rows) {
+            return Err(Declined::Row);
+        }
+        let adding = adds(kind)?;
+        if holds(self.rows, row, 0) {
+            return Err(Declined::Outer);
+        }
+        if self.on_other_side(adding, row) {
+            return Err(Declined::Side);
+        }
+        self.local_test(adding, row)?;
+        Ok(adding)
     }
-    let adding = adds(kind)?;
-    if holds(rows, row, 0) {
-        return Err(Declined::Outer);
-    }
-    if on_other_side(marks, adding, row) {
-        return Err(Declined::Side);
-    }
-    local_test(rows, work, ids, marks, adding, row)?;
-    Ok(adding)
 }
 
 // Answers proposal k on the marks then standing. If it is taken the row that it names goes to the other side, and the result is 1, else 0.
@@ -71,7 +64,13 @@ pub(crate) fn answer_one(
 {
     let row = word_at(proposals, 8 * k) as usize;
     let kind = word_at(proposals, 8 * k + 4) as usize;
-    let given = answer(rows, work, ids, marks, row, kind);
+    let growing = Growing {
+        rows,
+        work: &*work,
+        marks: &*marks,
+        ids,
+    };
+    let given = growing.answer(row, kind);
     answers[k] = answer_of(given);
     match given {
         Ok(adding) => {

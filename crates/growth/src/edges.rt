@@ -1,11 +1,11 @@
 // The edge that two skin triangles of a row share, and the edge opposite it.
 ghost use Rattle.std.specs.Prelude.{◌≡◌, [], ◌∷◌, ◌<◌};
 ghost use Rattle.rules.specs.Below.{count, pick};
+ghost use Rattle.table.specs.Rows.{rows_in};
 ghost use Rattle.skin.specs.Between.{between};
 ghost use Rattle.growth.specs.Edges.{edge_corner, opposite_edge, opposite_corner, in_both};
-ghost use Rattle.growth.specs.Around.{Surrounded};
 
-use skin::is_between;
+use crate::growing::Growing;
 use table::faces::{EDGES_AT, corner_at};
 
 pub(crate) fn edge_corner(edge: usize, k: usize) -> usize
@@ -32,21 +32,20 @@ pub(crate) fn opposite_corner(edge: usize, k: usize) -> usize
     edge_corner(opposite(edge), k)
 }
 
-// An edge is in each skin triangle of the row: none leaves out one of its corners.
-fn in_both(neighbours: &[u32], marks: &[u8], row: usize, edge: usize) -> bool
-    requires { Surrounded neighbours.now marks.now row × (edge < 6) }
-    ensures { result ≡ in_both (between neighbours.now marks.now row) edge }
-{
-    !(is_between(neighbours, marks, row, edge_corner(edge, 0))
-        | is_between(neighbours, marks, row, edge_corner(edge, 1)))
-}
+impl Growing<'_> {
+    // An edge is in each skin triangle of the row: none leaves out one of its corners.
+    fn in_both(self, row: usize, edge: usize) -> bool
+        requires { (row < rows_in self.rows.now) × (edge < 6) }
+        ensures { result ≡ in_both (between self.entry.work.now self.entry.marks.now row) edge }
+    {
+        !(self.on_skin(row, edge_corner(edge, 0)) | self.on_skin(row, edge_corner(edge, 1)))
+    }
 
-// The position of the edge that two skin triangles share. The edge opposite it is in neither.
-pub(crate) fn shared_edge(neighbours: &[u32], marks: &[u8], row: usize) -> usize
-    requires { Surrounded neighbours.now marks.now row × (count 4 (between neighbours.now marks.now row) ≡ 2) }
-    ensures { (result < 6) × (pick 4 (between neighbours.now marks.now row) ≡ opposite_corner result 0 ∷ opposite_corner result 1 ∷ []) }
-{
-    (0..6)
-        .find(|&edge| in_both(neighbours, marks, row, edge))
-        .unwrap()
+    // The position of the edge that two skin triangles share. The edge opposite it is in neither.
+    pub(crate) fn shared_edge(self, row: usize) -> usize
+        requires { (row < rows_in self.rows.now) × (count 4 (between self.work.now self.marks.now row) ≡ 2) }
+        ensures { (result < 6) × (pick 4 (between self.entry.work.now self.entry.marks.now row) ≡ opposite_corner result 0 ∷ opposite_corner result 1 ∷ []) }
+    {
+        (0..6).find(|&edge| self.in_both(row, edge)).unwrap()
+    }
 }

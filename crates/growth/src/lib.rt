@@ -7,6 +7,8 @@ mod cases;
 mod declined;
 mod edges;
 mod free;
+mod growing;
+mod sides;
 
 ghost use Rattle.std.specs.Prelude.{◌≡◌, ◌/◌, ◌≤◌, length};
 ghost use Rattle.rules.specs.Proposals.{answers_to, final_marks, taken};

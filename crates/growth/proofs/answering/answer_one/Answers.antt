@@ -1,8 +1,12 @@
 use Rattle.std.proofs.Common.{◌≡◌, ◌≢◌, ◌∙◌, refl, sym, ap, ℕ, set}
+use Rattle.growth.specs.Tested.{area_tested}
 use Rattle.growth.specs.Answers.{given_is, given_row, one_taken, row_taken, none_taken, row_kept}
 use Rattle.growth.specs.Declined.{some_number}
 use Rattle.table.specs.Rows.{table_in}
 use Rattle.growth.proofs.answering.answer_one.Goals as goal
+
+pub invariant_of-growing : goal.invariant_of-growing
+invariant_of-growing c = record { tested = area_tested c.requires.0 }
 
 pub flip_row-requires : goal.flip_row-requires
 flip_row-requires c =

@@ -1,7 +1,7 @@
 use Rattle.std.proofs.Common.{◌≡◌, arith, ap, not, rules, Err}
 use Rattle.growth.specs.Answers.{no_such_row, no_such_kind, outer_row, there_already, by_cases}
 use Rattle.table.specs.Rows.{table_in}
-use Rattle.growth.proofs.answering.answer.Goals as goal
+use Rattle.growth.proofs.growing.Growing.answer.Goals as goal
 
 pub returns-then-row-row_count : goal.returns-then-row-row_count
 returns-then-row-row_count c = (no_such_row (table_in _) _ _ _ (omega (arith, c.row_count.ensures, c.if-row-row_count.true)), tt)

@@ -1,6 +1,0 @@
-use Rattle.growth.specs.Around.{Counted}
-use Rattle.skin.specs.Between.{between}
-use Rattle.growth.proofs.cases.left_out.Given as goal
-
-abbrev pub invariant-loop-corner : goal.invariant-loop-corner
-invariant-loop-corner l = Counted (between l.neighbours l.marks l.row) l.corner l.count l.last
