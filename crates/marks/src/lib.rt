@@ -1,18 +1,16 @@
 // The starting marks. Codes 10 to 12.
 #![tactic(auto)]
 
-ghost use Rattle.std.specs.Prelude.{◌≡◌, ◌≤◌, length};
+ghost use Rattle.std.specs.Prelude.{◌≡◌, length};
 ghost use Rattle.rules.specs.Below.{lowest};
 ghost use Rattle.rules.specs.First.{first_match};
 ghost use Rattle.rules.specs.Job.{unlike, mark_tests};
-ghost use Rattle.rules.specs.Reading.Outer.{OuterFirst};
 ghost use Rattle.table.specs.Rows.{table_in, rows_in};
-ghost use Rattle.rings.specs.Far.{Marked};
 ghost use Rattle.marks.specs.Start.{bad_mark, verdict_of};
 ghost use Rattle.values.specs.Places.{place_of};
 
+use rings::marked::Marked;
 use rings::ringless_vertex;
-use table::{holds, row_count};
 
 // The first rule that the marks break, with the row or the vertex that breaks it. Where none is broken, the marks may be grown.
 #[derive(Clone, Copy)]
@@ -33,25 +31,24 @@ fn bad_mark(marks: &[u8]) -> Option<usize>
 }
 
 // The first outer row whose mark differs from that of the lowest outer row. Outer rows come first, so that one is row 0.
-fn unlike_outer(rows: &[u8], marks: &[u8]) -> Option<usize>
-    requires { (rows_in rows.now ≤ length marks.now) × OuterFirst (table_in rows.now) }
-    ensures { place_of result ≡ lowest (rows_in rows.now) (unlike (table_in rows.now) marks.now) }
+fn unlike_outer(marked: Marked) -> Option<usize>
+    ensures { place_of result ≡ lowest (rows_in marked.entry.table.rows.now) (unlike (table_in marked.entry.table.rows.now) marked.entry.marks.now) }
 {
-    (1..row_count(rows)).find(|&row| holds(rows, row, 0) & (marks[row] != marks[0]))
+    (1..marked.table.row_count()).find(|&row| marked.table.holds(row, 0)
+        & (marked.marks[row] != marked.marks[0]))
 }
 
 // The first of the refusals 10 to 12.
-pub fn check_marks(rows: &[u8], neighbours: &[u32], marks: &[u8], ids: usize) -> Result<(), Unfit>
-    requires { Marked rows.now neighbours.now marks.now ids }
-    ensures { verdict_of result ≡ first_match 10 (mark_tests (table_in rows.now) ids marks.now) }
+pub fn check_marks(marked: Marked) -> Result<(), Unfit>
+    ensures { verdict_of result ≡ first_match 10 (mark_tests (table_in marked.entry.table.rows.now) marked.entry.ids marked.entry.marks.now) }
 {
-    if let Some(row) = bad_mark(marks) {
+    if let Some(row) = bad_mark(marked.marks) {
         return Err(Unfit::Mark(row));
     }
-    if let Some(row) = unlike_outer(rows, marks) {
+    if let Some(row) = unlike_outer(marked) {
         return Err(Unfit::Outer(row));
     }
-    if let Some(vertex) = ringless_vertex(rows, neighbours, marks, ids) {
+    if let Some(vertex) = ringless_vertex(marked) {
         return Err(Unfit::Vertex(vertex));
     }
     Ok(())

@@ -312,3 +312,7 @@ pub record Marked (bytes neighbours marks : List ℕ) (ids : ℕ) : Type 0 where
   pub closed : Closed (table_in bytes) ids
   pub few : ids ≤ most_ids
   pub each : length marks ≡ rows_in bytes
+
+pub marked_by : {bytes neighbours marks : List ℕ} {ids : ℕ} → Ground bytes neighbours ids → Closed (table_in bytes) ids → ids ≤ most_ids → length marks ≡ rows_in bytes
+    → Marked bytes neighbours marks ids
+marked_by on_ground closed few each = record { ground = on_ground; closed = closed; few = few; each = each }

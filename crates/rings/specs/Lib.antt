@@ -6,8 +6,7 @@
 --     Ring      edges followed from end to end
 --     Follow    the ring of a vertex, followed so
 --     InTurn    a search whose test asks what it told of the numbers before
---     Tested    what the tests have shown of a table with marks, which a value can carry
---     Carried   the ring test rests on no more
+--     Tested    a closed table with marks by tests, which a value can carry
 pub mod Far
 pub mod Ends
 pub mod Tallies
@@ -16,4 +15,3 @@ pub mod Ring
 pub mod Follow
 pub mod InTurn
 pub mod Tested
-pub mod Carried

@@ -1,5 +1,5 @@
 use Rattle.std.proofs.Common.{refl, arith}
-use Rattle.rings.specs.Carried.{marked_of}
+use Rattle.rings.specs.Tested.{marked_of}
 use Rattle.rings.specs.Follow.{not_landed, ring_edge, ring_few, ring_more, ring_ends, turn_fails}
 use Rattle.rings.proofs.ring.follow.Goals as goal
 

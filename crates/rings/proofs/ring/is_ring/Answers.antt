@@ -1,5 +1,5 @@
 use Rattle.std.proofs.Common.{refl, sym, ◌∙◌, mod-lt, arith, lit<}
-use Rattle.rings.specs.Carried.{marked_of}
+use Rattle.rings.specs.Tested.{marked_of}
 use Rattle.rings.specs.Follow.{none_shown, start_row, start_edge}
 use Rattle.rings.proofs.ring.is_ring.Goals as goal
 

@@ -1,5 +1,5 @@
 use Rattle.std.proofs.Common.{refl, arith}
-use Rattle.rings.specs.Carried.{marked_of}
+use Rattle.rings.specs.Tested.{marked_of}
 use Rattle.rings.specs.Follow.{two_known, two_asked}
 use Rattle.rings.specs.Sides.{between_near}
 use Rattle.round.specs.Edge.{near_back}

@@ -1,5 +1,5 @@
 use Rattle.std.proofs.Common.{refl, sym, ◌∙◌, arith, ap, not}
-use Rattle.rings.specs.Carried.{marked_of}
+use Rattle.rings.specs.Tested.{marked_of}
 use Rattle.rings.specs.Follow.{landed}
 use Rattle.rings.specs.Sides.{between_near}
 use Rattle.std.proofs.lemmas.Bool.{not-true, not-false}

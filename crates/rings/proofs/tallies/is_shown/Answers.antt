@@ -1,4 +1,4 @@
-use Rattle.rings.specs.Carried.{marked_of}
+use Rattle.rings.specs.Tested.{marked_of}
 use Rattle.rings.specs.Tallies.{place_marked, shown_by}
 use Rattle.rings.proofs.tallies.is_shown.Goals as goal
 

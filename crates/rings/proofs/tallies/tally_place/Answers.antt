@@ -1,5 +1,5 @@
 use Rattle.std.proofs.Common.{arith, ap, not}
-use Rattle.rings.specs.Carried.{marked_of}
+use Rattle.rings.specs.Tested.{marked_of}
 use Rattle.rings.specs.Tallies.{place_marked, face_fits, shown_side_off, shown_both, tallies_pass, tallies_meet, room_one, room_two, room_three}
 use Rattle.rings.proofs.tallies.tally_place.Goals as goal
 
