@@ -1,4 +1,5 @@
-// Text put into a buffer from a place on. Each function tells the place behind what it put.
+// Text put into a buffer from a place on. Each function tells the place behind what it put. Buffer and place stay two parameters: `Put` says
+// of both what they were and what they are, which of the fields of a struct would be no plainer.
 ghost use Rattle.std.specs.Prelude.{ℕ, List, [], ◌∷◌, ◌+◌, ◌*◌, ◌≤◌, ◌<◌, length};
 ghost use Rattle.std.specs.Borrow.{MutBor};
 ghost use Rattle.rules.specs.Below.{gather};
