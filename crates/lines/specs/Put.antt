@@ -16,7 +16,7 @@ sets_append (x ∷ xs) ys d at =
     ap (λ (n : ℕ). sets (sets (set d at x) (suc at) xs) n ys) (add-suc at (length xs) ∙ sym (suc-add at (length xs)))
     ∙ sets_append xs ys (set d at x) (suc at)
 
-put_none : (d : List ℕ) (at : ℕ) → Put [] d at d at
+pub put_none : (d : List ℕ) (at : ℕ) → Put [] d at d at
 put_none d at = record { behind = sym (add-zero at); is = refl }
 
 pub put_more : {xs ys d d' d'' : List ℕ} {at n m : ℕ} → Put xs d at d' n → Put ys d' n d'' m → Put (xs ++ ys) d at d'' m

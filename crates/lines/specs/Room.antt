@@ -1,10 +1,8 @@
 -- How long a line is, by how long its numbers are.
-use Rattle.std.specs.Prelude.{◌≡◌, refl, List, [], ◌∷◌, ℕ, suc, ◌+◌, ◌*◌, ◌^◌, ◌≤◌, ◌<◌, length, get_or}
-use Rattle.std.proofs.Common.{le_antisymm, mul-le-mul_left, arith, length-append}
-use Rattle.rules.specs.Below.{gather}
-use Rattle.rules.specs.Laws.Lists.{gather_more}
+use Rattle.std.specs.Prelude.{◌≡◌, List, [], ◌∷◌, ℕ, suc, ◌+◌, ◌*◌, ◌^◌, ◌≤◌, ◌<◌, length, get_or}
+use Rattle.std.proofs.Common.{arith, length-append}
 use Rattle.lines.specs.Listing.{decimal, spaced, line, word_t, triangle_line}
-use Rattle.lines.specs.Put.{Put, put_kept, Turns, turns_begin, one_turn, turns_end}
+use Rattle.lines.specs.Put.{Put}
 use Rattle.lines.specs.Decimal.{few_digits}
 
 -- each number is below a bound
@@ -26,23 +24,3 @@ module _ {a b c : ℕ} where
       → {d d' : List ℕ} {at n : ℕ} → Put (line word_t (a ∷ b ∷ c ∷ [])) d at d' n → Put (triangle_line ids k) d at d' n
   unfolding triangle_line
   triangle_put ids k ea eb ec p = rw (← ea, ← eb, ← ec) p
-
--- ---- a line of at most `size` bytes at each turn
-
-pub record LineTurns (f : ℕ → List ℕ) (size count : ℕ) (before : List ℕ) (at : ℕ) (after : List ℕ) (next k : ℕ) : Type 0 where
-  pub turns : Turns (λ i. gather i f) count before at after next k
-  pub within : next ≤ at + size * k
-
-pub lines_begin : (f : ℕ → List ℕ) (size count : ℕ) (d : List ℕ) (at : ℕ) → LineTurns f size count d at d at 0
-unfolding gather
-lines_begin f size count d at = record { turns = turns_begin (λ i. gather i f) count d at refl; within = omega arith }
-
-module _ {f : ℕ → List ℕ} {size count : ℕ} {d d' : List ℕ} {at n k : ℕ} (t : LineTurns f size count d at d' n k) where
-  pub line_room : k < count → at + size * count ≤ length d → n + size ≤ length d'
-  line_room l room = omega (arith, t.within, put_kept t.turns.put, mul-le-mul_left size l)
-
-  pub line_turn : k < count → {d'' : List ℕ} {m : ℕ} → Put (f k) d' n d'' m → m ≤ n + size → LineTurns f size count d at d'' m (k + 1)
-  line_turn l p few = record { turns = one_turn t.turns l (gather_more k f) p; within = omega (arith, t.within) }
-
-  pub lines_end : count ≤ k → Put (gather count f) d at d' n × (n ≤ at + size * count)
-  lines_end l = (turns_end t.turns l, rw (le_antisymm t.turns.upto l) at t.within)

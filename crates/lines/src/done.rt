@@ -4,7 +4,7 @@ ghost use Rattle.rules.specs.Job.{most_rows, most_proposals};
 ghost use Rattle.lines.specs.Listing.{answer_line, answer_lines, triangle_line, triangle_lines, done_text};
 ghost use Rattle.lines.specs.Put.{Put};
 
-use crate::text::put_line;
+use crate::text::{put_each, put_line};
 
 // The line of a proposal: its number and its answer.
 fn put_answer(answers: &[u8], k: usize, out: &mut [u8], at: usize) -> usize
@@ -19,11 +19,13 @@ fn put_answers(answers: &[u8], count: usize, out: &mut [u8], at: usize) -> usize
     requires { (count ≤ most_proposals) × (count ≤ length answers.now) × (at + 12 * count ≤ length out.old) }
     ensures { Put (answer_lines answers.now count) out.old at out.new result × (result ≤ at + 12 * count) }
 {
-    let mut next = at;
-    for k in 0..count {
-        next = put_answer(answers, k, out, next);
-    }
-    next
+    put_each(
+        count,
+        12,
+        out,
+        at,
+        |k, out, at| put_answer(answers, k, out, at),
+    )
 }
 
 fn id_at(triangles: &[u32], place: usize) -> usize
@@ -49,11 +51,13 @@ fn put_triangles(triangles: &[u32], count: usize, out: &mut [u8], at: usize) -> 
     requires { (3 * count ≤ length triangles.now) × (at + 35 * count ≤ length out.old) }
     ensures { Put (triangle_lines triangles.now count) out.old at out.new result × (result ≤ at + 35 * count) }
 {
-    let mut next = at;
-    for k in 0..count {
-        next = put_triangle(triangles, k, out, next);
-    }
-    next
+    put_each(
+        count,
+        35,
+        out,
+        at,
+        |k, out, at| put_triangle(triangles, k, out, at),
+    )
 }
 
 pub(crate) fn put_done(

@@ -4,7 +4,7 @@ ghost use Rattle.rules.specs.Job.{written};
 ghost use Rattle.lines.specs.Facets.{whole, parting, unit_text, facets_text};
 ghost use Rattle.lines.specs.Put.{Put};
 
-use crate::text::{put_byte, put_number};
+use crate::text::{put_byte, put_each, put_number};
 
 // Bytes enough for 4,096 facets: nine numbers each, of six characters at most and one behind.
 pub const FACETS_ROOM: usize = 258048;
@@ -48,9 +48,11 @@ pub fn list_facets(units: &[i16], out: &mut [u8]) -> usize
     requires { 7 * length units.now ≤ length out.old }
     ensures { (result ≡ length (facets_text units.now)) × (out.new ≡ written (facets_text units.now) out.old) }
 {
-    let mut next = 0;
-    for k in 0..units.len() {
-        next = put_unit(units, k, out, next);
-    }
-    next
+    put_each(
+        units.len(),
+        7,
+        out,
+        0,
+        |k, out, at| put_unit(units, k, out, at),
+    )
 }

@@ -1,5 +1,8 @@
-// Text put into a buffer from a place on. Each function tells the place behind what it put.
-ghost use Rattle.std.specs.Prelude.{[], ◌∷◌, ◌+◌, ◌≤◌, ◌<◌, length};
+// Text put into a buffer from a place on. Each function tells the place behind what it put. Buffer and place stay two parameters: `Put` says
+// of both what they were and what they are, which of the fields of a struct would be no plainer.
+ghost use Rattle.std.specs.Prelude.{ℕ, List, [], ◌∷◌, ◌+◌, ◌*◌, ◌≤◌, ◌<◌, length};
+ghost use Rattle.std.specs.Borrow.{MutBor};
+ghost use Rattle.rules.specs.Below.{gather};
 ghost use Rattle.lines.specs.Listing.{decimal, spaced, line};
 ghost use Rattle.lines.specs.Put.{Put};
 
@@ -40,7 +43,7 @@ fn put_spaced(n: usize, out: &mut [u8], at: usize) -> usize
     put_number(n, out, next)
 }
 
-// A space before each number.
+// A space before each number. The room is that of the whole text, and no number has one of its own, so `put_each` does not serve.
 fn put_numbers(numbers: &[usize], out: &mut [u8], at: usize) -> usize
     requires { at + length (spaced numbers.now) ≤ length out.old }
     ensures { Put (spaced numbers.now) out.old at out.new result }
@@ -59,4 +62,25 @@ pub(crate) fn put_line(word: &[u8], numbers: &[usize], out: &mut [u8], at: usize
     let behind_word = put_word(word, out, at);
     let behind_numbers = put_numbers(numbers, out, behind_word);
     put_byte(b'\n', out, behind_numbers)
+}
+
+// Puts a text for each k below `count`, one behind the other: `put` puts one, of at most `size` bytes.
+pub(crate) fn put_each<F: Fn(usize, &mut [u8], usize) -> usize>(
+    count: usize,
+    size: usize,
+    out: &mut [u8],
+    at: usize,
+    put: F,
+) -> usize
+    requires room { at + size * count ≤ length out.old }
+    requires callable { (k n : ℕ) (o : MutBor (List ℕ)) → k < count → n + size ≤ length o.now → F.pre put k o n }
+    requires few { (k n m : ℕ) (o o' : MutBor (List ℕ)) → F.post put k o n m o' → m ≤ n + size }
+    ensures texts { (text : ℕ → List ℕ) → ((k n m : ℕ) (o o' : MutBor (List ℕ)) → F.post put k o n m o' → Put (text k) o.now n o'.now m) → Put (gather count text) out.old at out.new result }
+    ensures few { result ≤ at + size * count }
+{
+    let mut next = at;
+    for k in 0..count {
+        next = put(k, out, next);
+    }
+    next
 }

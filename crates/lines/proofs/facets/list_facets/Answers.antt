@@ -1,18 +1,10 @@
-use Rattle.std.proofs.Common.{arith}
-use Rattle.lines.specs.Facets.{facets_text}
-use Rattle.lines.specs.Put.{put_front}
-use Rattle.lines.specs.Room.{lines_begin, line_turn, lines_end}
+use Rattle.std.proofs.Common.{arith, rules}
+use Rattle.lines.specs.Facets.{unit_text, facets_text}
+use Rattle.lines.specs.Put.{Put, put_front}
 use Rattle.lines.proofs.facets.list_facets.Goals as goal
-
-pub loop-k-init : goal.loop-k-init
-loop-k-init c = lines_begin _ _ _ _ _
-
-pub loop-k-preserved : goal.loop-k-preserved
-loop-k-preserved c =
-    line_turn c.loop-k.invariant c.loop-k-test.true c.put_unit-next.ensures.0 c.put_unit-next.ensures.1
 
 pub returns : goal.returns
 unfolding facets_text
 returns c =
-    let (put, few) = lines_end c.loop-k.invariant c.loop-k-test.false in
-    put_front put (omega (arith, put.behind))
+    let put : Put (facets_text c.args.units.now) c.args.out.now 0 c.put_each.new.out c.put_each.result = c.put_each.ensures.texts (unit_text c.args.units.now) (λ k n m o o' p. search rules) in
+    put_front put (omega (arith, put.behind, c.put_each.ensures.few, c.requires))
