@@ -11,7 +11,7 @@ ghost use Rattle.lines.specs.Listing.{line, word_refused, listing_of};
 ghost use Rattle.lines.specs.Listed.{proposals_read};
 
 use done::put_done;
-use job::{Reading, read};
+use job::read;
 use text::put_line;
 use track::run;
 
@@ -30,12 +30,7 @@ pub fn refused_line(numbers: &[usize], out: &mut [u8]) -> usize
 fn proposals_of(job: &[u8]) -> usize
     ensures { result ≡ proposals_read job.now }
 {
-    match read(job) {
-        Reading::Short => 0,
-        Reading::Limits => 0,
-        Reading::Layout => 0,
-        Reading::Laid(h) => h.proposals,
-    }
+    read(job).map_or(0, |h| h.proposals)
 }
 
 // Writes the listing of a job to the front of a buffer, and tells how long it is.
