@@ -2,8 +2,7 @@
 use Rattle.std.specs.Prelude.{◌≡◌, true, List, ℕ, ◌*◌, ◌≤◌, ◌<◌, length}
 use Rattle.rules.specs.Points.{point_in, on_grid}
 use Rattle.rules.specs.Job.{most_ids}
-use Rattle.table.specs.Ground.{Ground}
-use Rattle.table.specs.Tested.{IdsTested, tested_of}
+use Rattle.table.specs.Tested.{IdsTested}
 use Rattle.points.specs.Grid.{Grid}
 
 -- V, no more ids than the limit, a point for each, and each point in range
@@ -17,5 +16,5 @@ PointsTested bytes points ids =
 pub placed_grid : {points : List ℕ} {ids : ℕ} → ids ≤ most_ids → 6 * ids ≤ length points → ((v : ℕ) → v < ids → on_grid (point_in points v) ≡ true) → Grid points ids
 placed_grid few room on = record { few = few; room = room; on = on }
 
-pub points_tested : {bytes neighbours points : List ℕ} {ids : ℕ} → Ground bytes neighbours ids → Grid points ids → PointsTested bytes points ids
-points_tested on_ground grid = ((tested_of on_ground).1, grid.few, grid.room, grid.on)
+pub grid_tested : (bytes : List ℕ) {points : List ℕ} {ids : ℕ} → IdsTested bytes ids → Grid points ids → PointsTested bytes points ids
+grid_tested bytes below grid = (below, grid.few, grid.room, grid.on)

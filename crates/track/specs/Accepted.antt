@@ -8,8 +8,7 @@ use Rattle.rules.specs.Job.{track, Job, job_of, answers_of, final_of, listed_of,
 use Rattle.rules.specs.Reading.Closed.{Closed}
 use Rattle.rules.specs.Reading.Codes.{run_accepted, run_code}
 use Rattle.rules.proofs.Reading.Codes.{accepted_closed}
-use Rattle.track.specs.declared.Outcome.{Outcome}
-use Rattle.track.specs.Outcomes.{result_of}
+use Rattle.track.specs.Outcomes.{Outcome, result_of}
 
 module _ (bytes : List ℕ) (before : Lent) {o : Outcome} {after : Lent} (ran : result_of o after ≡ run track bytes before) (zero_code : o.code ≡ 0) where
   abbrev job : Job

@@ -1,5 +1,6 @@
 -- The verdict on the header and the rooms, and what it leaves to decide.
 use Rattle.std.specs.Prelude.{◌≡◌, refl, ◌≢◌, Bool, true, false, List, ◌++◌, ℕ, ◌≤◌, ◌<◌, leb, length, take, drop}
+use Rattle.std.specs.Prelude as std
 use Rattle.std.proofs.Math.Path.{sym, ap}
 use Rattle.std.proofs.Common.{◌∙◌, inl, inr, arith, le_refl, lit<, lit≤, length-take-le}
 use borrow.Author.Tests.{ne_eqb, le-leb}
@@ -13,10 +14,8 @@ use Rattle.rules.specs.Reading.Work.{work_length}
 use Rattle.rules.specs.Reading.Codes.{limits_read, RoomShort, room_reads}
 use Rattle.rules.proofs.Reading.Codes.{laid_out_reads}
 use Rattle.job.specs.declared.Header.{Header}
-use Rattle.job.specs.declared.Reading.{Reading}
-use Rattle.job.specs.declared.Reading.TheVariants.{Laid}
+use Rattle.job.specs.declared.Refused.{Refused}
 use Rattle.job.specs.Reading.{meant, header, verdict_of, header_in, laid_header}
-use Rattle.track.specs.declared.Outcome.{Outcome}
 use Rattle.track.specs.Outcomes.{lent, result_of, refusal}
 use Rattle.track.specs.Stages as stages
 use Rattle.track.specs.Stages.{decided, run_decided, from_table, with_rest, front_decides}
@@ -30,13 +29,13 @@ module _ (job : List ℕ) (buffers : Lent) where
   early {v} e ne small = sym (sym (run_decided job buffers) ∙ rw (e, ne_eqb v.code 0 ne, small))
 
   -- a header that is not laid out
-  pub header_refused : {v : Verdict} → v ≡ first_match 1 (layout_tests track job) → v.code ≢ 0 → {o : Outcome} → o ≡ refusal v → result_of o buffers ≡ run track job buffers
+  pub header_refused : {v : Verdict} → v ≡ first_match 1 (layout_tests track job) → v.code ≢ 0 → result_of (refusal v) buffers ≡ run track job buffers
   unfolding verdict_on job_tests layout_tests
-  header_refused {v} is ne told =
+  header_refused {v} is ne =
       let small = match_below 1 (lit< tt) (layout_tests track job) in
-      rw told (early (match_front 1 (layout_tests track job) _ (rw is at ne) ∙ sym is) ne (le-leb v.code 4 (rw is (omega arith))))
+      early (match_front 1 (layout_tests track job) _ (rw is at ne) ∙ sym is) ne (le-leb v.code 4 (rw is (omega arith)))
 
-  module _ {r : Reading} (is : (verdict_of r ≡ first_match 1 (layout_tests track job)) × (header_in r (header job) ≡ header job)) {h : Header} (laid : r ≡ Laid h) where
+  module _ {r : std.Result Header Refused} (is : (verdict_of r ≡ first_match 1 (layout_tests track job)) × (header_in r (header job) ≡ header job)) {h : Header} (laid : r ≡ std.Ok h) where
     facts : (h ≡ header job) × (within_limits track (header_of job) ≡ true) × (laid_out track (header_of job) job ≡ true)
     facts = laid_header job is laid
 
@@ -52,10 +51,10 @@ module _ (job : List ℕ) (buffers : Lent) where
       unfolding room_short
       short_is = told_short ∙ ap (λ (x : Header). short_rooms track (meant x) (length buffers.answers) (length buffers.final_marks) (length buffers.triangles) (length buffers.work)) facts.0
 
-      pub room_refused : short ≡ true → {o : Outcome} → o ≡ refusal (record { code = 4; place = 0 }) → result_of o buffers ≡ run track job buffers
+      pub room_refused : short ≡ true → result_of (refusal (record { code = 4; place = 0 })) buffers ≡ run track job buffers
       unfolding room_tests given found
-      room_refused on told =
-          rw told (early {v = record { code = 4; place = 0 }} (from_room ∙ match_here 4 _ _ 0 (ap (λ (b : Bool). found b 0) (sym short_is ∙ on))) (λ e. omega arith) refl)
+      room_refused on =
+          early {v = record { code = 4; place = 0 }} (from_room ∙ match_here 4 _ _ 0 (ap (λ (b : Bool). found b 0) (sym short_is ∙ on))) (λ e. omega arith) refl
 
       module _ (off : short ≡ false) where
         enough : {n m : ℕ} → (n < m → RoomShort track (header_of job) buffers) → m ≤ n

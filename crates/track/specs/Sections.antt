@@ -1,5 +1,6 @@
 -- The sections of a job that is laid out, and what the verdict on its table leaves to decide.
 use Rattle.std.specs.Prelude.{◌≡◌, refl, ◌≢◌, false, List, ℕ, ◌+◌, ◌-◌, ◌*◌, ◌≤◌, leb, length, get_or, take, drop, replicate}
+use Rattle.std.specs.Prelude as std
 use Rattle.std.proofs.Math.Path.{sym, ap}
 use Rattle.std.proofs.Common.{◌∙◌, ⊎_elim, le_refl, arith, lit<, lit≤}
 use Rattle.std.proofs.lemmas.List.{length-replicate}
@@ -18,33 +19,24 @@ use Rattle.rules.specs.Reading.Work.{list_shorter}
 use Rattle.job.specs.declared.Header.{Header}
 use Rattle.job.specs.Reading.{meant}
 use Rattle.table.specs.declared.Broken.{Broken}
-use Rattle.table.specs.declared.Broken.TheVariants.{Nothing, Row, Order, Triangle, Edge, Vertex}
+use Rattle.track.specs.Refusals.{broken_code}
 use Rattle.table.specs.Rows.{table_in}
 use Rattle.table.specs.Closed.{verdict_of, left_of}
-use Rattle.track.specs.declared.Outcome.{Outcome}
 use Rattle.table.specs.Ground.{Ground}
 use Rattle.track.specs.Outcomes.{lent, result_of, refusal}
 use Rattle.track.specs.Cut.{counted, marks_is, points_is, proposals_counted, job_is}
 use Rattle.track.specs.Stages.{decided, job_in, from_table, later_tests, from_marks, late, all_zero, Ready, Laid}
 
 -- a refused table leaves zeros, a closed one what was written
-left_refused : (b : Broken) (work : List ℕ) → (verdict_of b).code ≢ 0 → left_of b work ≡ replicate (length work) 0
+left_refused : (b : std.Result (Unit {0}) Broken) (work : List ℕ) → (verdict_of b).code ≢ 0 → left_of b work ≡ replicate (length work) 0
 unfolding left_of
-left_refused Nothing work ne = absurd (ne refl)
-left_refused (Row r) work ne = refl
-left_refused (Order r) work ne = refl
-left_refused (Triangle r) work ne = refl
-left_refused (Edge r) work ne = refl
-left_refused (Vertex r) work ne = refl
+left_refused (std.Ok _) work ne = absurd (ne refl)
+left_refused (std.Err b) work ne = refl
 
-left_closed : (b : Broken) (work : List ℕ) → (verdict_of b).code ≡ 0 → left_of b work ≡ work
+left_closed : (b : std.Result (Unit {0}) Broken) (work : List ℕ) → (verdict_of b).code ≡ 0 → left_of b work ≡ work
 unfolding left_of
-left_closed Nothing work z = refl
-left_closed (Row r) work z = absurd (omega arith)
-left_closed (Order r) work z = absurd (omega arith)
-left_closed (Triangle r) work z = absurd (omega arith)
-left_closed (Edge r) work z = absurd (omega arith)
-left_closed (Vertex r) work z = absurd (omega arith)
+left_closed (std.Ok _) work z = refl
+left_closed (std.Err b) work z = absurd (broken_code b z)
 
 -- what was written to work before is written over
 same_left : (h : rules.Header) (tests : List Test) (code : ℕ) → 5 ≤ code → (job : Job) (answers final triangles work work₀ : List ℕ)
@@ -79,7 +71,7 @@ module _ {h : Header} {job : List ℕ} {buffers : Lent} (l : Laid h job buffers)
   abbrev points : List ℕ
   points = take (length job - d) (drop d job)
 
-  module _ (broken : Broken) (found : verdict_of broken ≡ first_match 5 (table_tests (table_in rows) h.ids)) {o : Outcome} (told : o ≡ refusal (verdict_of broken))
+  module _ (broken : std.Result (Unit {0}) Broken) (found : verdict_of broken ≡ first_match 5 (table_tests (table_in rows) h.ids))
       {work : List ℕ} (left : work ≡ left_of broken (written (neighbour_list (table_in rows)) buffers.work)) where
     list_fits : length (neighbour_list (table_in rows)) ≤ work_room track (meant h)
     list_fits = omega (arith, list_length (table_in rows), counted job l.is l.long ea eb ec ed)
@@ -87,17 +79,13 @@ module _ {h : Header} {job : List ℕ} {buffers : Lent} (l : Laid h job buffers)
     kept : length (written (neighbour_list (table_in rows)) buffers.work) ≡ length buffers.work
     kept = written_length (neighbour_list (table_in rows)) buffers.work (rw l.work_room_lem list_fits)
 
-    same_code : o.code ≡ (verdict_of broken).code
-    same_code = ap (λ (x : Outcome). x.code) told
-
-    pub table_refused : o.code ≢ 0 → result_of o (lent buffers.answers buffers.final_marks buffers.triangles work) ≡ from_table h (job_of track job) buffers
+    pub table_refused : (verdict_of broken).code ≢ 0 → result_of (refusal (verdict_of broken)) (lent buffers.answers buffers.final_marks buffers.triangles work) ≡ from_table h (job_of track job) buffers
     unfolding decided refused
     table_refused ne =
         rw (← (job_is job l.is l.long ea eb ec ed))
         (rw (
           match_front 5 (table_tests (table_in rows) h.ids) (later_tests (table_in rows) h.ids marks (points_of track (meant h) points)) (λ z. off (ap (λ (v : Verdict). v.code) found ∙ z)),
           ← found,
-          told,
           ne_eqb (verdict_of broken).code 0 off,
           small,
           left,
@@ -107,17 +95,17 @@ module _ {h : Header} {job : List ℕ} {buffers : Lent} (l : Laid h job buffers)
         ))
       where
         off : (verdict_of broken).code ≢ 0
-        off z = ne (same_code ∙ z)
+        off z = ne z
 
         small : leb (verdict_of broken).code 4 ≡ false
         small = ap (λ (v : Verdict). leb v.code 4) found ∙ late 5 (lit≤ tt) (table_tests (table_in rows) h.ids) (λ z. off (ap (λ (v : Verdict). v.code) found ∙ z))
 
-    module _ (z : o.code ≡ 0) where
+    module _ (z : (verdict_of broken).code ≡ 0) where
       is_closed : Closed (table_in rows) h.ids
-      is_closed = (closed_reads (table_in rows) h.ids 5 (lit< tt)).0 (ap (λ (v : Verdict). v.code) (sym found) ∙ sym same_code ∙ z)
+      is_closed = (closed_reads (table_in rows) h.ids 5 (lit< tt)).0 (ap (λ (v : Verdict). v.code) (sym found) ∙ z)
 
       listed : work ≡ written (neighbour_list (table_in rows)) buffers.work
-      listed = left ∙ left_closed broken (written (neighbour_list (table_in rows)) buffers.work) (sym same_code ∙ z)
+      listed = left ∙ left_closed broken (written (neighbour_list (table_in rows)) buffers.work) z
 
       work_long : length work ≡ work_room track (meant h)
       work_long = ap length listed ∙ kept ∙ l.work_room_lem
@@ -157,5 +145,5 @@ module _ {h : Header} {job : List ℕ} {buffers : Lent} (l : Laid h job buffers)
           ∙ same_left (meant h) (later_tests (table_in rows) h.ids marks (points_of track (meant h) points)) 10 (lit≤ tt) (job_in h rows marks proposals points)
           buffers.answers buffers.final_marks buffers.triangles work buffers.work list_fits listed
           ∙ ap (λ (v : Verdict). decided (meant h) v (job_in h rows marks proposals points) buffers)
-          (sym (match_append 5 (lit< tt) (table_tests (table_in rows) h.ids) (later_tests (table_in rows) h.ids marks (points_of track (meant h) points)) (ap (λ (v : Verdict). v.code) (sym found) ∙ sym same_code ∙ z)))
+          (sym (match_append 5 (lit< tt) (table_tests (table_in rows) h.ids) (later_tests (table_in rows) h.ids marks (points_of track (meant h) points)) (ap (λ (v : Verdict). v.code) (sym found) ∙ z)))
           ∙ ap (λ (j : Job). from_table h j buffers) (job_is job l.is l.long ea eb ec ed)

@@ -1,5 +1,5 @@
 -- The run in stages: header and room, table, marks, points, proposals. Each says what is still to be decided when it begins.
-use Rattle.std.specs.Prelude.{◌≡◌, refl, ◌≢◌, Bool, true, false, ◌||◌, cond, ℕ, ◌*◌, ◌/◌, ◌≤◌, eqb, leb, length, take, replicate}
+use Rattle.std.specs.Prelude.{◌≡◌, refl, ◌≢◌, true, false, cond, ℕ, ◌*◌, ◌/◌, ◌≤◌, eqb, leb, length, take, replicate}
 use Rattle.std.proofs.Common.{sym, ◌∙◌, ⊎_elim, le_refl, arith, lit<, lit≤}
 use Rattle.std.proofs.Math.Path.{ap, ap₂}
 use Rattle.std.proofs.Math.Option.{Option, some, none}
@@ -13,6 +13,7 @@ use Rattle.rules.specs.First.{Test, Verdict, first_match}
 use Rattle.rules.specs.Skin.{skin_as}
 use Rattle.rules.specs.Points.{Point, point_in}
 use Rattle.rules.specs.Outward.{triangle_as}
+use Rattle.rules.specs.Laws.Job.{outward_pointed}
 use Rattle.rules.specs.Proposals.{Proposal, inside_in, answers_to, final_marks, taken}
 use Rattle.rules.specs.Work.{work_area}
 use Rattle.rules.specs.Job as rules
@@ -32,7 +33,6 @@ use Rattle.points.specs.Grid.{Grid, none_off}
 use Rattle.tallies.specs.Counted.{Listed}
 use Rattle.tallies.specs.Area.{Area, area_ground}
 use Rattle.growth.specs.Answers.{proposals_in}
-use Rattle.track.specs.declared.Outcome.{Outcome}
 use Rattle.track.specs.Outcomes.{lent, result_of, refusal}
 
 -- the verdict decides: accepted, or refused
@@ -110,23 +110,20 @@ late code l tests ne = ⊎_elim (λ z. absurd (ne z)) (λ m. lt-leb (first_match
 pub all_zero : (h : Header) (work : List ℕ) → length work ≡ work_room track (meant h) → written (replicate (work_room track (meant h)) 0) work ≡ replicate (length work) 0
 all_zero h work e = rw (← e) (written_whole (replicate (length work) 0) work (rw (length-replicate {A = ℕ} (length work) 0) (le_refl (length work))))
 
-module _ (h : Header) (job : Job) (buffers : Lent) {o : Outcome} (told : o ≡ refusal (first_match 10 (later_tests job.table job.ids job.marks job.points))) where
+module _ (h : Header) (job : Job) (buffers : Lent) {v : Verdict} (told : v ≡ first_match 10 (later_tests job.table job.ids job.marks job.points)) where
   abbrev tests : List Test
   tests = later_tests job.table job.ids job.marks job.points
 
-  same_code : o.code ≡ (first_match 10 tests).code
-  same_code = ap (λ (x : Outcome). x.code) told
-
-  pub marks_refused : length buffers.work ≡ work_room track (meant h) → {work : List ℕ} → o.code ≢ 0 → work ≡ replicate (length buffers.work) 0
-      → result_of o (lent buffers.answers buffers.final_marks buffers.triangles work) ≡ from_marks h job buffers
+  pub marks_refused : length buffers.work ≡ work_room track (meant h) → {work : List ℕ} → v.code ≢ 0 → work ≡ replicate (length buffers.work) 0
+      → result_of (refusal v) (lent buffers.answers buffers.final_marks buffers.triangles work) ≡ from_marks h job buffers
   unfolding decided refused
   marks_refused room ne ew =
-      let off : (first_match 10 tests).code ≢ 0 = λ z. ne (same_code ∙ z) in
+      let off : (first_match 10 tests).code ≢ 0 = λ z. ne (ap (λ (w : Verdict). w.code) told ∙ z) in
       rw (told, ne_eqb (first_match 10 tests).code 0 off, late 10 (lit≤ tt) tests off, all_zero h buffers.work room, ew)
 
-  pub marks_accepted : o.code ≡ 0 → {r : Result} → r ≡ accepted job buffers → r ≡ from_marks h job buffers
+  pub marks_accepted : v.code ≡ 0 → {r : Result} → r ≡ accepted job buffers → r ≡ from_marks h job buffers
   unfolding decided
-  marks_accepted z e = rw (sym same_code ∙ z) e
+  marks_accepted z e = rw (ap (λ (w : Verdict). w.code) (sym told) ∙ z) e
 
 -- ---- the points
 
@@ -146,17 +143,17 @@ module _ (h : Header) (t : Table) (points : List ℕ) where
   without_points off = rw off
 
 -- the verdict on the marks and then on the points
-module _ (h : Header) (t : Table) (marks points : List ℕ) {v : Verdict} (is : v ≡ first_match 10 (mark_tests t h.ids marks)) {o : Outcome} (told : o ≡ refusal v) where
-  code_is : o.code ≡ (first_match 10 (mark_tests t h.ids marks)).code
-  code_is = ap (λ (x : Outcome). x.code) told ∙ ap (λ (w : Verdict). w.code) is
+module _ (h : Header) (t : Table) (marks points : List ℕ) {v : Verdict} (is : v ≡ first_match 10 (mark_tests t h.ids marks)) where
+  code_is : v.code ≡ (first_match 10 (mark_tests t h.ids marks)).code
+  code_is = ap (λ (w : Verdict). w.code) is
 
-  pub by_marks : o.code ≢ 0 → o ≡ refusal (first_match 10 (later_tests t h.ids marks (points_of track (meant h) points)))
-  by_marks ne = told ∙ ap refusal (is ∙ sym (match_front 10 (mark_tests t h.ids marks) _ (λ z. ne (code_is ∙ z))))
+  pub by_marks : v.code ≢ 0 → v ≡ first_match 10 (later_tests t h.ids marks (points_of track (meant h) points))
+  by_marks ne = is ∙ sym (match_front 10 (mark_tests t h.ids marks) _ (λ z. ne (code_is ∙ z)))
 
-  pub by_points : o.code ≡ 0 → {p : Outcome} → p ≡ refusal (first_match 13 (point_tests t h.ids (points_of track (meant h) points)))
-      → p ≡ refusal (first_match 10 (later_tests t h.ids marks (points_of track (meant h) points)))
+  pub by_points : v.code ≡ 0 → {p : Verdict} → p ≡ first_match 13 (point_tests t h.ids (points_of track (meant h) points))
+      → p ≡ first_match 10 (later_tests t h.ids marks (points_of track (meant h) points))
   unfolding mark_tests
-  by_points z e = e ∙ ap refusal (sym (match_append 10 (lit< tt) (mark_tests t h.ids marks) _ (sym code_is ∙ z)))
+  by_points z e = e ∙ sym (match_append 10 (lit< tt) (mark_tests t h.ids marks) _ (sym code_is ∙ z))
 
 -- where none of the codes 10 to 15 is given, each point is in range
 pub on_grid_lem : (h : Header) (t : Table) (marks : List ℕ) {points : List ℕ} → h.ids ≤ most_ids → length points ≡ point_bytes track (meant h)
@@ -166,27 +163,31 @@ on_grid_lem h t marks {points} few long e on =
     let passed = (match_parts 10 (lit< tt) (mark_tests t h.ids marks) _ e).1 in
     none_off (match_zero 13 (lit< tt) _ _ (rw on at passed)).0 few (points_room h t points on long)
 
--- the order of a triangle that is asked for: outward only where there are points, and for rising no point is read
-asked_order : (h : Header) (t : Table) (points : List ℕ)
-    → triangle_as t (asks_outward track (meant h)) (some (point_in points)) ≡ triangle_as t (asks_outward track (meant h)) (points_of track (meant h) points)
-unfolding triangle_as points_of asks_outward has_points
-asked_order h t points = go (eqb h.mode 1) (eqb h.mode 3)
+-- the order of a triangle that is asked for: outward where there are points and it is asked, else rising
+pub outward_order : (h : Header) (t : Table) (points : List ℕ) → asks_outward track (meant h) ≡ true
+    → triangle_as t true (some (point_in points)) ≡ triangle_as t (asks_outward track (meant h)) (points_of track (meant h) points)
+unfolding points_of
+outward_order h t points asked = rw (asked, outward_pointed track (meant h) asked)
+
+pub rising_order : (h : Header) (t : Table) (points : List ℕ) → asks_outward track (meant h) ≡ false
+    → triangle_as t true none ≡ triangle_as t (asks_outward track (meant h)) (points_of track (meant h) points)
+unfolding triangle_as
+rising_order h t points off = rw off (by (points_of track (meant h) points))
   where
-    go : (one three : Bool) → triangle_as t one (some (point_in points)) ≡ triangle_as t one (cond (one || three) (some (point_in points)) none)
-    go true three = refl
-    go false true = refl
-    go false false = refl
+    by : (o : Option (ℕ → Point)) → triangle_as t true none ≡ triangle_as t false o
+    by none = refl
+    by (some at) = refl
 
 -- the skin of the front of the final marks, in the order asked for
 abbrev pub front_skin : Header → List ℕ → List ℕ → List ℕ → List (List ℕ)
 front_skin h rows points final =
     skin_as (table_in rows) (inside_in (take (rows_in rows) final)) (triangle_as (table_in rows) (asks_outward track (meant h)) (points_of track (meant h) points))
 
-pub front_listed : (h : Header) (rows points final triangles₀ : List ℕ) {n count : ℕ} {asked : Bool} {triangles : List ℕ} → n ≡ rows_in rows → asked ≡ asks_outward track (meant h)
-    → (count ≡ length (skin_as (table_in rows) (inside_in (take n final)) (triangle_as (table_in rows) asked (some (point_in points)))))
-    × (triangles ≡ written (flatten (skin_as (table_in rows) (inside_in (take n final)) (triangle_as (table_in rows) asked (some (point_in points))))) triangles₀)
+pub front_listed : (h : Header) (rows points final triangles₀ : List ℕ) {n count : ℕ} {ids : ℕ → ℕ → List ℕ} {triangles : List ℕ} → n ≡ rows_in rows
+    → ids ≡ triangle_as (table_in rows) (asks_outward track (meant h)) (points_of track (meant h) points)
+    → (count ≡ length (skin_as (table_in rows) (inside_in (take n final)) ids)) × (triangles ≡ written (flatten (skin_as (table_in rows) (inside_in (take n final)) ids)) triangles₀)
     → (count ≡ length (front_skin h rows points final)) × (triangles ≡ written (flatten (front_skin h rows points final)) triangles₀)
-front_listed h rows points final triangles₀ en ea e = rw (en, ea, asked_order h (table_in rows) points) at e
+front_listed h rows points final triangles₀ en eo e = rw (en, eo) at e
 
 -- ---- the work that is needed, lent by itself
 

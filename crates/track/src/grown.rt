@@ -1,20 +1,27 @@
 // An accepted job: its rows are counted at their ids, its proposals are answered and its skin is listed. Code 0.
-ghost use Rattle.std.specs.Prelude.{◌≡◌, ◌*◌, ◌/◌, ◌≤◌, length};
+ghost use Rattle.std.specs.Prelude.{true, ◌≡◌, ◌*◌, ◌/◌, ◌≤◌, length};
 ghost use mathlib.Core.List.{flatten};
 ghost use Rattle.rules.specs.Proposals.{answers_to, final_marks as marks_grown, taken};
 ghost use Rattle.rules.specs.Work.{work_area};
-ghost use Rattle.rules.specs.Job.{written, accepted};
+ghost use Rattle.rules.specs.Job.{track, asks_outward, points_of, written, accepted};
+ghost use Rattle.rules.specs.Outward.{triangle_as};
+ghost use Rattle.job.specs.Reading.{meant};
+ghost use Rattle.table.specs.Tested.{IdsTested};
+ghost use Rattle.skin_list.specs.Orders.{rows_of, points_of as told};
 ghost use Rattle.table.specs.Rows.{table_in, rows_in};
 ghost use Rattle.table.specs.Ground.{Ground};
 ghost use Rattle.tallies.specs.Area.{Area};
 ghost use Rattle.growth.specs.Answers.{proposals_in};
-ghost use Rattle.track.specs.Outcomes.{lent, result_of};
+ghost use Rattle.track.specs.Outcomes.{lent, outcome_of, result_of};
 ghost use Rattle.track.specs.Stages.{job_in, Ready, OnGrid, front_skin};
 
-use crate::Outcome;
+use crate::refusal::Grown;
 use growth::answer_all;
 use job::Header;
+use points::placed::Placed;
 use skin_list::list_skin;
+use skin_list::order::Order;
+use table::checked::Table;
 use table::row_count;
 use tallies::count_rows;
 
@@ -39,6 +46,22 @@ fn answer_copied(
     answer_all(rows, ids, proposals, answers, &mut final_marks[..n], work)
 }
 
+// The order that word 7 asks for.
+fn order_of<'a>(h: Header, table: Table<'a>, points: &'a [u8]) -> Order<'a>
+    requires { IdsTested table.rows.now h.ids × OnGrid h points.now }
+    ensures { (rows_of result ≡ table.entry.rows.now)
+        × (triangle_as (table_in table.entry.rows.now) true (told result) ≡ triangle_as (table_in table.entry.rows.now) (asks_outward track (meant h)) (points_of track (meant h) points.now)) }
+{
+    if h.asks_outward() {
+        return Order::Outward(Placed {
+            table,
+            points,
+            ids: h.ids,
+        });
+    }
+    Order::Rising(table)
+}
+
 // The skin of the marks at the front of the final marks, in the order that word 7 asks for.
 fn list_front(
     h: Header,
@@ -52,17 +75,13 @@ fn list_front(
     ensures { (result ≡ length (front_skin h rows.now points.now final_marks.now))
         × (triangles.new ≡ written (flatten (front_skin h rows.now points.now final_marks.now)) triangles.old) }
 {
-    let n = row_count(rows);
-    let outward = h.asks_outward();
-    list_skin(
+    let table = Table {
         rows,
-        work,
-        &final_marks[..n],
-        points,
-        h.ids,
-        outward,
-        triangles,
-    )
+        neighbours: work,
+    };
+    let order = order_of(h, table, points);
+    let n = row_count(rows);
+    list_skin(order, &final_marks[..n], triangles)
 }
 
 pub(crate) fn grow(
@@ -75,20 +94,15 @@ pub(crate) fn grow(
     final_marks: &mut [u8],
     triangles: &mut [u32],
     work: &mut [u32],
-) -> Outcome
+) -> Grown
     requires { Ready h rows.now marks.now proposals.now points.now (lent answers.old final_marks.old triangles.old work.old) × OnGrid h points.now }
-    ensures { result_of result (lent answers.new final_marks.new triangles.new work.new)
+    ensures { result_of (outcome_of (Ok result)) (lent answers.new final_marks.new triangles.new work.new)
         ≡ accepted (job_in h rows.now marks.now proposals.now points.now)
         (lent answers.old final_marks.old triangles.old work.old) }
 {
     let ids = h.ids;
     count_rows(rows, marks, ids, work);
     let taken = answer_copied(rows, ids, marks, proposals, answers, final_marks, work);
-    let count = list_front(h, rows, points, final_marks, triangles, work);
-    Outcome {
-        code: 0,
-        place: 0,
-        taken,
-        triangles: count,
-    }
+    let triangles = list_front(h, rows, points, final_marks, triangles, work);
+    Grown { taken, triangles }
 }
