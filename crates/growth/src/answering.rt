@@ -66,8 +66,8 @@ pub(crate) fn answer_one(
     let kind = word_at(proposals, 8 * k + 4) as usize;
     let growing = Growing {
         rows,
-        work: &*work,
-        marks: &*marks,
+        work,
+        marks,
         ids,
     };
     let given = growing.answer(row, kind);
