@@ -1,4 +1,5 @@
 -- A job that was run, and what its writer answers, as `rules` has it.
+use Rattle.std.specs.Prelude as std
 use Rattle.std.specs.Prelude.{◌≡◌, ◌≢◌, Bool, false, ℕ, ◌+◌, ◌-◌, ◌*◌, ◌≤◌, ◌<◌, eqb, get_or, take, drop}
 use Rattle.std.proofs.Math.Path.{refl, sym, ap, subst}
 use Rattle.std.proofs.Common.{◌∙◌, inl, inr, le_refl, arith, length-take-le}
@@ -29,13 +30,13 @@ use Rattle.rules.proofs.Reading.Codes.{accepted_room, accepted_header, accepted_
 use Rattle.rules.specs.Reading.Room.{skin_same_length, skin_words, skin_fits}
 use Rattle.rules.specs.Reading.Outward.{three_each}
 use Rattle.job.specs.declared.Header.{Header}
-use Rattle.job.specs.declared.Reading.{Reading}
+use Rattle.job.specs.declared.Refused.{Refused}
 use Rattle.job.specs.Reading.{meant, header, verdict_of}
 use Rattle.table.specs.Rows.{rows_in, table_in}
 use Rattle.table.specs.Ground.{Ground}
 use Rattle.points.specs.Grid.{Grid}
-use Rattle.track.specs.declared.Outcome.{Outcome}
-use Rattle.track.specs.Outcomes.{result_of}
+use Rattle.track.specs.Refusals.{header_code}
+use Rattle.track.specs.Outcomes.{Outcome, result_of}
 use Rattle.track.specs.Accepted.{job_accepted, job_closed, marks_are, triangles_are, work_is, triangles_is}
 use Rattle.track.specs.Cut.{counted, points_is, job_is}
 use Rattle.track_stl.specs.Skins.{listed_as}
@@ -161,17 +162,16 @@ module _ {h : Header} (job : List ℕ) (is : h ≡ header job) (o : Outcome) (le
   points_told = ap (λ (x : Header). has_points track (meant x)) is
 
   -- 20
-  pub no_points : has_points track (meant h) ≡ false → {r : Outcome} → r ≡ record { code = 20; place = 0; taken = 0; triangles = 0 } → told r left file ≡ exported track job (result_of o left) file
+  pub no_points : has_points track (meant h) ≡ false → told (record { code = 20; place = 0; taken = 0; triangles = 0 }) left file ≡ exported track job (result_of o left) file
   unfolding file_tests given found unwritten
-  no_points off e = ap (λ (r : Outcome). told r left file) e ∙ by (match_here 20 _ _ 0 (rw (sym points_told ∙ off))) refl
+  no_points off = by (match_here 20 _ _ 0 (rw (sym points_told ∙ off))) refl
 
   module _ (on : has_points track (meant h) ≡ true) where
     -- 21
-    pub short_room : length file < file_length o.triangles → {r : Outcome} → r ≡ record { code = 21; place = 0; taken = 0; triangles = 0 } → told r left file ≡ exported track job (result_of o left) file
+    pub short_room : length file < file_length o.triangles → told (record { code = 21; place = 0; taken = 0; triangles = 0 }) left file ≡ exported track job (result_of o left) file
     unfolding file_tests given found unwritten
-    short_room l e =
-        ap (λ (r : Outcome). told r left file) e
-        ∙ by (match_later 20 _ _ (rw (sym points_told ∙ on)) ∙ match_here 21 _ _ 0 (rw (lt-ltb (length file) (file_length o.triangles) l))) refl
+    short_room l =
+        by (match_later 20 _ _ (rw (sym points_told ∙ on)) ∙ match_here 21 _ _ 0 (rw (lt-ltb (length file) (file_length o.triangles) l))) refl
 
     -- 0
     pub in_file : file_length o.triangles ≤ length file → {after : List ℕ} → after ≡ written (skin_file (job_of track job)) file → told o left after ≡ exported track job (result_of o left) file
@@ -199,7 +199,7 @@ module _ (job : List ℕ) (before : Lent) {o : Outcome} {after : Lent} (run_is :
   acc = job_accepted job before run_is zero_code
 
   -- so it is laid out
-  pub laid : (r : Reading) → verdict_of r ≡ first_match 1 (layout_tests track job) → (verdict_of r).code ≡ 0
+  pub laid : (r : std.Result Header Refused) → verdict_of r ≡ first_match 1 (layout_tests track job) → (verdict_of r).code ≡ 0
   laid r e = ap (λ (v : Verdict). v.code) e ∙ layout_passed track job before acc
 
   enough : {n m : ℕ} → (n < m → RoomShort track (header_of job) before) → m ≤ n
@@ -276,3 +276,8 @@ module _ (job : List ℕ) (before : Lent) {o : Outcome} {after : Lent} (run_is :
   pub triangles_told : o.triangles ≡ length (outward_skin the)
   triangles_told =
       triangles_is job before run_is zero_code ∙ skin_same_length the.table (inside_in (final_of the)) _ ∙ sym (skin_same_length the.table (inside_in (final_of the)) _)
+
+-- what is read with code 0 is a header
+pub header_read : {r : std.Result Header Refused} → (verdict_of r).code ≡ 0 → ((h : Header) → r ≡ std.Ok h → ⊥) → ⊥
+header_read {r = std.Ok h} z unread = unread h refl
+header_read {r = std.Err e} z unread = header_code e z

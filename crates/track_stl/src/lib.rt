@@ -2,66 +2,64 @@
 #![tactic(auto)]
 
 mod corners;
+pub mod unwritten;
 
 ghost use Rattle.std.specs.Prelude.{◌≡◌, true, ◌*◌, ◌≤◌, length};
+ghost use Rattle.std.proofs.Math.Option.{some};
 ghost use mathlib.Core.List.{flatten};
 ghost use Rattle.rules.specs.Points.{point_in};
+ghost use Rattle.rules.specs.Outward.{triangle_as};
 ghost use Rattle.rules.specs.Job.{track, has_points, job_of, written, Lent};
 ghost use Rattle.rules.specs.Stl.{file_length, file_of, corners_of, outward_skin, skin_file, exported, write_skin};
 ghost use Rattle.job.specs.Reading.{meant};
-ghost use Rattle.table.specs.Rows.{rows_in};
-ghost use Rattle.table.specs.Ground.{Ground};
-ghost use Rattle.points.specs.Grid.{Grid};
+ghost use Rattle.table.specs.Rows.{rows_in, table_in};
+ghost use Rattle.skin_list.specs.Orders.{rows_of, points_of};
 ghost use Rattle.track.specs.Outcomes.{lent, result_of};
+ghost use Rattle.track_stl.specs.Outcomes.{outcome_of};
 ghost use Rattle.track_stl.specs.Skins.{listed_as};
 ghost use Rattle.track_stl.specs.Ran.{Ran, told};
 
 use corners::put_triangles;
-use job::{Header, Reading, read};
+use job::{Header, read};
+use points::placed::Placed;
 use skin_list::list_skin;
-use track::{Outcome, run};
+use skin_list::order::Order;
+use table::checked::Table;
+use track::refusal::Grown;
+use track::run;
+use unwritten::Unwritten;
 
-// A file that is refused: zero for both counts.
-fn refused(code: usize) -> Outcome
-    ensures { result ≡ record { code = code; place = 0; taken = 0; triangles = 0 } }
+// One of the two orders of a table with points.
+fn order_in(placed: Placed<'_>, outward: bool) -> Order<'_>
+    ensures { (rows_of result ≡ placed.entry.table.rows.now)
+        × (triangle_as (table_in placed.entry.table.rows.now) true (points_of result) ≡ triangle_as (table_in placed.entry.table.rows.now) outward (some (point_in placed.entry.points.now))) }
 {
-    Outcome {
-        code,
-        place: 0,
-        taken: 0,
-        triangles: 0,
+    if outward {
+        return Order::Outward(placed);
     }
+    Order::Rising(placed.table)
 }
 
 // Lists the skin outward and writes it; then lists it as it was listed, which brings the triangles back.
-fn put_listed(
-    asked: bool,
-    ids: usize,
-    rows: &[u8],
-    marks: &[u8],
-    points: &[u8],
-    triangles: &mut [u32],
-    work: &[u32],
-    file: &mut [u8],
-)
-    requires { Ground rows.now work.now ids × Grid points.now ids × (rows_in rows.now ≤ length marks.now) × (6 * rows_in rows.now ≤ length triangles.old)
-        × (triangles.old ≡ written (flatten (listed_as asked rows.now marks.now points.now)) triangles.old)
-        × (file_length (length (listed_as true rows.now marks.now points.now)) ≤ length file.old) }
+fn put_listed(placed: Placed, asked: bool, marks: &[u8], triangles: &mut [u32], file: &mut [u8])
+    requires { (rows_in placed.table.rows.now ≤ length marks.now) × (6 * rows_in placed.table.rows.now ≤ length triangles.old)
+        × (triangles.old ≡ written (flatten (listed_as asked placed.table.rows.now marks.now placed.points.now)) triangles.old)
+        × (file_length (length (listed_as true placed.table.rows.now marks.now placed.points.now)) ≤ length file.old) }
     ensures { (triangles.new ≡ triangles.old)
-        × (file.new ≡ written (file_of (corners_of (point_in points.now) (listed_as true rows.now marks.now points.now))) file.old) }
+        × (file.new ≡ written (file_of (corners_of (point_in placed.entry.points.now) (listed_as true placed.entry.table.rows.now marks.now placed.entry.points.now))) file.old) }
 {
-    let count = list_skin(rows, work, marks, points, ids, true, triangles);
-    put_triangles(points, ids, triangles, count, file);
-    list_skin(rows, work, marks, points, ids, asked, triangles);
+    let count = list_skin(Order::Outward(placed), marks, triangles);
+    put_triangles(placed, triangles, count, file);
+    list_skin(order_in(placed, asked), marks, triangles);
 }
 
 // The file of a job that was run and has points. The triangles are left as the run left them.
-fn put_skin(
+fn put_skin<'a>(
     h: Header,
-    job: &[u8],
+    job: &'a [u8],
     final_marks: &[u8],
     triangles: &mut [u32],
-    work: &[u32],
+    work: &'a [u32],
     file: &mut [u8],
 )
     requires { Ran h job.now final_marks.now triangles.old work.now × (has_points track (meant h) ≡ true)
@@ -72,40 +70,40 @@ fn put_skin(
     let marks_at = h.marks_at();
     let points_at = h.points_at();
     let n = h.rows;
-    put_listed(
-        h.asks_outward(),
-        h.ids,
-        &job[rows_at..marks_at],
-        &final_marks[..n],
-        &job[points_at..],
-        triangles,
-        work,
-        file,
-    );
+    let table = Table {
+        rows: &job[rows_at..marks_at],
+        neighbours: work,
+    };
+    let placed = Placed {
+        table,
+        points: &job[points_at..],
+        ids: h.ids,
+    };
+    put_listed(placed, h.asks_outward(), &final_marks[..n], triangles, file);
 }
 
 // What a job that was run gets: 20, 21, or its file.
 fn write_ran(
     h: Header,
-    ran: Outcome,
+    ran: Grown,
     job: &[u8],
     final_marks: &[u8],
     triangles: &mut [u32],
     work: &[u32],
     file: &mut [u8],
-) -> Outcome
+) -> Result<Grown, Unwritten>
     requires { Ran h job.now final_marks.now triangles.old work.now × (ran.triangles ≡ length (outward_skin (job_of track job.now))) }
     ensures { (triangles.new ≡ triangles.old)
-        × ((left : Lent) → told result left file.new ≡ exported track job.now (result_of ran left) file.old) }
+        × ((left : Lent) → told (outcome_of result) left file.new ≡ exported track job.now (result_of (outcome_of (Ok ran)) left) file.old) }
 {
     if !h.has_points() {
-        return refused(20);
+        return Err(Unwritten::NoPoints);
     }
     if file.len() < 84 + 50 * ran.triangles {
-        return refused(21);
+        return Err(Unwritten::Room);
     }
     put_skin(h, job, final_marks, triangles, work, file);
-    ran
+    Ok(ran)
 }
 
 // Runs a job and writes its skin to the front of the file. The four buffers of the job are left as its run leaves them.
@@ -116,18 +114,12 @@ pub fn write_skin(
     triangles: &mut [u32],
     work: &mut [u32],
     file: &mut [u8],
-) -> Outcome
-    ensures { told result (lent answers.new final_marks.new triangles.new work.new) file.new
+) -> Result<Grown, Unwritten>
+    ensures { told (outcome_of result) (lent answers.new final_marks.new triangles.new work.new) file.new
         ≡ write_skin track job.now (lent answers.old final_marks.old triangles.old work.old) file.old }
 {
-    let ran = run(job, answers, final_marks, triangles, work);
-    if ran.code != 0 {
-        return ran;
-    }
-    match read(job) {
-        Reading::Short => ran,
-        Reading::Limits => ran,
-        Reading::Layout => ran,
-        Reading::Laid(h) => write_ran(h, ran, job, final_marks, triangles, work, file),
-    }
+    let ran = run(job, answers, final_marks, triangles, work)?;
+    // A job that was run is laid out.
+    let Ok(h) = read(job) else { unreachable!() };
+    write_ran(h, ran, job, final_marks, triangles, work, file)
 }

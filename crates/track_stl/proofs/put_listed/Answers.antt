@@ -1,22 +1,31 @@
-use Rattle.std.proofs.Common.{ap, ◌∙◌, true}
+use Rattle.std.proofs.Common.{ap, ◌∙◌, true, rules}
 use Rattle.rules.specs.Job.{written}
+use Rattle.table.specs.Tested.{ground_of}
 use Rattle.track_stl.specs.Skins.{listed_as, listed_again, may_put, file_put}
 use mathlib.Core.List.{flatten}
 use Rattle.track_stl.proofs.put_listed.Goals as goal
 
 pub put_triangles-requires : goal.put_triangles-requires
 put_triangles-requires c =
-    let (many, below, few) = may_put c.args.rows.now c.args.marks.now c.args.points.now c.args.work.now c.args.ids c.requires.0
-    c.args.triangles.now c.requires.3 c.list_skin-count.ensures.0 c.list_skin-count.ensures.1 in
-    (c.requires.1, many, below, few, rw c.list_skin-count.ensures.0 c.requires.5)
+    let placed = c.args.placed in
+    let (many, below, few) = may_put placed.table.rows.now c.args.marks.now placed.points.now placed.table.neighbours.now placed.ids (ground_of placed.table.tested placed.tested.0)
+    c.args.triangles.now c.requires.1 c.list_skin-count.ensures.0 c.list_skin-count.ensures.1 in
+    (many, below, few, rw c.list_skin-count.ensures.0 c.requires.3)
+
+pub list_skin-requires : goal.list_skin-requires
+list_skin-requires c = rw c.order_in.ensures.0 (c.requires.0, search rules)
 
 pub returns : goal.returns
 returns c =
-    let rows = c.args.rows.now in
+    let placed = c.args.placed in
+    let on_ground = ground_of placed.table.tested placed.tested.0 in
+    let rows = placed.table.rows.now in
     let marks = c.args.marks.now in
-    let points = c.args.points.now in
-    let triangles = c.args.triangles.now in (
-      c.list_skin.ensures.1 ∙ ap (written (flatten (listed_as c.args.asked rows marks points))) c.list_skin-count.ensures.1
-          ∙ listed_again rows marks points c.args.work.now c.args.ids c.requires.0 triangles c.requires.3 c.args.asked true c.requires.4,
-      file_put rows marks points c.args.work.now c.args.ids c.requires.0 triangles c.requires.3 c.list_skin-count.ensures.0 c.list_skin-count.ensures.1 c.args.file.now c.put_triangles.ensures,
+    let points = placed.points.now in
+    let work = placed.table.neighbours.now in
+    let triangles = c.args.triangles.now in
+    let order = c.order_in.ensures in (
+      (rw (order.0, order.1) at c.list_skin.ensures.1) ∙ ap (written (flatten (listed_as c.args.asked rows marks points))) c.list_skin-count.ensures.1
+          ∙ listed_again rows marks points work placed.ids on_ground triangles c.requires.1 c.args.asked true c.requires.2,
+      file_put rows marks points work placed.ids on_ground triangles c.requires.1 c.list_skin-count.ensures.0 c.list_skin-count.ensures.1 c.args.file.now c.put_triangles.ensures,
     )

@@ -9,21 +9,21 @@ use Rattle.track_stl.proofs.corners.corner_at.Goals as goal
 
 pub overflow_cast-p : goal.overflow_cast-p
 overflow_cast-p c =
-    let on = (each_in_range (meant c.point_at-p.result) (ap on_grid c.point_at-p.ensures ∙ c.requires.0.on c.args.id c.requires.1)).0 in
+    let on = (each_in_range (meant c.point_at-p.result) (ap on_grid c.point_at-p.ensures ∙ c.args.placed.tested.3 c.args.id c.requires)).0 in
     rw (grid_wide _ on) (grid_fits _ on)
 
 pub overflow_cast-p-2 : goal.overflow_cast-p-2
 overflow_cast-p-2 c =
-    let on = (each_in_range (meant c.point_at-p.result) (ap on_grid c.point_at-p.ensures ∙ c.requires.0.on c.args.id c.requires.1)).1 in
+    let on = (each_in_range (meant c.point_at-p.result) (ap on_grid c.point_at-p.ensures ∙ c.args.placed.tested.3 c.args.id c.requires)).1 in
     rw (grid_wide _ on) (grid_fits _ on)
 
 pub overflow_cast-p-3 : goal.overflow_cast-p-3
 overflow_cast-p-3 c =
-    let on = (each_in_range (meant c.point_at-p.result) (ap on_grid c.point_at-p.ensures ∙ c.requires.0.on c.args.id c.requires.1)).2 in
+    let on = (each_in_range (meant c.point_at-p.result) (ap on_grid c.point_at-p.ensures ∙ c.args.placed.tested.3 c.args.id c.requires)).2 in
     rw (grid_wide _ on) (grid_fits _ on)
 
 pub returns : goal.returns
 unfolding point_corner
 returns c =
-    let (x, y, z) = each_in_range (meant c.point_at-p.result) (ap on_grid c.point_at-p.ensures ∙ c.requires.0.on c.args.id c.requires.1) in
+    let (x, y, z) = each_in_range (meant c.point_at-p.result) (ap on_grid c.point_at-p.ensures ∙ c.args.placed.tested.3 c.args.id c.requires) in
     c.corner_of.ensures ∙ rw (grid_cast c.point_at-p.result.x x, grid_cast c.point_at-p.result.y y, grid_cast c.point_at-p.result.z z) (ap point_corner c.point_at-p.ensures)
