@@ -2,7 +2,7 @@
 // number of all rows that do. The work area is lent whole.
 #![tactic(auto)]
 
-ghost use Rattle.std.specs.Prelude.{◌≡◌, true, false, List, ℕ, ◌+◌, ◌*◌, ◌≤◌, ◌<◌, set};
+ghost use Rattle.std.specs.Prelude.{◌≡◌, true, false, cond, List, ℕ, ◌+◌, ◌*◌, ◌≤◌, ◌<◌, set};
 ghost use Rattle.rules.specs.Below.{bit};
 ghost use Rattle.rules.specs.Cases.{other_side};
 ghost use Rattle.rules.specs.Proposals.{inside_in};
@@ -49,16 +49,23 @@ fn tallies_at(rows: &[u8]) -> usize
     4 * row_count(rows)
 }
 
+fn count_if(counts: bool, rows: &[u8], first: usize, row: usize, work: &mut [u32])
+    requires { RowSteppable (table_in rows.now) first true row work.old × (row < rows_in rows.now) }
+    ensures { work.new ≡ cond counts (step_row (table_in rows.now) first true row 4 work.old) work.old }
+{
+    if counts {
+        step_row(rows, first, true, row, work);
+    }
+}
+
 // One row more: at its ids, of the inside rows if it is one of them, and of all rows.
 fn count_row(rows: &[u8], marks: &[u8], ids: usize, row: usize, work: &mut [u32])
     requires { ((work₀ : List ℕ) × Listed rows.now work₀ marks.now ids) × (row < rows_in rows.now) × (work.old ≡ counted (table_in rows.now) ids marks.now row) }
     ensures { work.new ≡ counted (table_in rows.now) ids marks.now (row + 1) }
 {
     let first = tallies_at(rows);
-    if is_inside(marks, row) {
-        step_row(rows, first, true, row, work);
-    }
-    step_row(rows, first + ids, true, row, work);
+    count_if(is_inside(marks, row), rows, first, row, work);
+    count_if(true, rows, first + ids, row, work);
 }
 
 // Counts all rows: makes the work area for the marks, of one that has the neighbour list at its front.
