@@ -2,7 +2,6 @@
 use Rattle.std.specs.Prelude.{◌≡◌, refl, Bool, true, false, ◌&&◌, cond, ℕ, suc, ◌+◌, ◌*◌, ◌/◌, ◌%◌, ◌≤◌, ◌<◌, length, set}
 use Rattle.std.proofs.Math.Path.{sym, ap}
 use Rattle.std.proofs.Common.{◌∙◌, le_antisymm, mod-lt, add-one, arith, lit<, length-append}
-use Rattle.std.proofs.Math.Logic.{⊎_elim}
 use mathlib.Core.List.{List, [], ◌∷◌, ◌++◌, flatten, append-nil}
 use Rattle.std.proofs.lemmas.List.Edits.{sets}
 use Rattle.std.proofs.Math.Seq.{length-sets}
@@ -12,7 +11,6 @@ use Rattle.rules.specs.Skin.{on_skin, triangle, skin_as}
 use Rattle.rules.specs.Outward.{exchanged, triangle_as}
 use Rattle.rules.specs.Proposals.{inside_in}
 use Rattle.rules.specs.Job.{written}
-use Rattle.rules.specs.Laws.Truth.{true_or_false}
 use Rattle.rules.specs.Laws.Lists.{gather_more, gather_grows, flatten_snoc}
 use Rattle.rules.specs.Laws.Written.{written_none, written_run}
 use Rattle.rules.specs.Reading.Room.{skin_same_length, at_most_2_n, skin_by_place}
@@ -89,11 +87,11 @@ module _ {bytes : List ℕ} {id_count : ℕ} (paired : Paired (table_in bytes) i
   abbrev to : ℕ → List (List ℕ)
   to = listed_to bytes marks ids
 
-  it : List ℕ
+  abbrev it : List ℕ
   it = ids (place / 4) (place % 4)
 
   more : to (place + 1) ≡ to place ++ only listed it
-  unfolding listed_at it
+  unfolding listed_at
   more =
       gather_more place (listed_at bytes marks ids)
       ∙ ap (λ (b : Bool). to place ++ only b it) (sym el)
@@ -107,7 +105,6 @@ module _ {bytes : List ℕ} {id_count : ℕ} (paired : Paired (table_in bytes) i
     n_more = rw (one_more, length-append, ← l.counted)
 
     three : length it ≡ 3
-    unfolding it
     three = threes (place / 4) (place % 4) (mod-lt place (lit< tt))
 
     pub next_room : 3 * n + 3 ≤ length triangles
@@ -122,7 +119,7 @@ module _ {bytes : List ℕ} {id_count : ℕ} (paired : Paired (table_in bytes) i
           at_most_2_n (table_in bytes) (inside_in marks) paired refl,
         )
 
-    found : Listing bytes marks ids (place + 1) (n + 1) (sets triangles (3 * n) it) triangles₀
+    pub found : Listing bytes marks ids (place + 1) (n + 1) (sets triangles (3 * n) it) triangles₀
     found = record {
       upto = omega arith;
       kept = length-sets triangles (3 * n) it ∙ l.kept;
@@ -136,24 +133,17 @@ module _ {bytes : List ℕ} {id_count : ℕ} (paired : Paired (table_in bytes) i
         flat : flatten (to (place + 1)) ≡ flatten (to place) ++ it
         flat = ap flatten one_more ∙ flatten_snoc (to place) it
 
-  passed : listed ≡ false → Listing bytes marks ids (place + 1) n triangles triangles₀
+  pub passed : listed ≡ false → Listing bytes marks ids (place + 1) n triangles triangles₀
   unfolding only
   passed off =
       let same = more ∙ ap (λ (b : Bool). to place ++ only b it) off ∙ append-nil (to place) in
       record { upto = omega arith; kept = l.kept; counted = rw same l.counted; words = rw same l.words; front = rw same l.front }
 
-  -- one place more; what is put is the triangle in its order, if it is listed at all
-  pub list_turn : {n' : ℕ} {put triangles' : List ℕ} → n' ≡ cond listed (n + 1) n → (listed ≡ true → put ≡ ids (place / 4) (place % 4))
-      → triangles' ≡ cond listed (sets triangles (3 * n) put) triangles → Listing bytes marks ids (place + 1) n' triangles' triangles₀
-  unfolding it
-  list_turn en ep et =
-      ⊎_elim (λ (on : listed ≡ true). rw (en, et, on, ep on) (found on)) (λ (off : listed ≡ false). rw (en, et, off) (passed off)) (true_or_false listed)
-
 -- ---- outward, where it is asked for
 
--- rising ids are the wrong way, of a triangle that is listed
-pub turned_order : {listed turned : Bool} (order : Order) (r c : ℕ) → turned ≡ (listed && is_turned order r c) → listed ≡ true
+-- rising ids are the wrong way
+pub turned_order : {turned : Bool} (order : Order) (r c : ℕ) → turned ≡ is_turned order r c
     → in_order turned (table_in (rows_of order)) r c ≡ triangle_as (table_in (rows_of order)) true (points_of order) r c
 unfolding triangle_as
-turned_order (Rising t) r c e on = rw (e, on)
-turned_order (Outward p) r c e on = rw (e, on)
+turned_order (Rising t) r c e = rw e
+turned_order (Outward p) r c e = rw e

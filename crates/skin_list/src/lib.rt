@@ -38,28 +38,15 @@ fn put_ids(triangles: &mut [u32], at: usize, a: u32, b: u32, c: u32)
     triangles[at..at + 3].copy_from_slice(&[a, b, c]);
 }
 
-// Puts the triangle behind the n that are listed, if it is to be listed; where it is turned, with its last two ids exchanged.
-fn put(
-    listed: bool,
-    turned: bool,
-    table: Table,
-    row: usize,
-    corner: usize,
-    triangles: &mut [u32],
-    n: usize,
-) -> usize
-    requires { (row < rows_in table.rows.now) × (corner < 4) × (listed ≡ true → 3 * n + 3 ≤ length triangles.old) }
-    ensures { (result ≡ cond listed (n + 1) n)
-        × (triangles.new ≡ cond listed (sets triangles.old (3 * n) (in_order turned (table_in table.entry.rows.now) row corner)) triangles.old) }
+// Puts the triangle behind the n that are listed; where it is turned, with its last two ids exchanged.
+fn put(turned: bool, rows: &[u8], row: usize, corner: usize, triangles: &mut [u32], n: usize)
+    requires { (row < rows_in rows.now) × (corner < 4) × (3 * n + 3 ≤ length triangles.old) }
+    ensures { triangles.new ≡ sets triangles.old (3 * n) (in_order turned (table_in rows.now) row corner) }
 {
-    if listed {
-        let a = triangle_id(table.rows, row, corner, 0);
-        let b = triangle_id(table.rows, row, corner, choose(turned, 2, 1));
-        let c = triangle_id(table.rows, row, corner, choose(turned, 1, 2));
-        put_ids(triangles, 3 * n, a, b, c);
-        return n + 1;
-    }
-    n
+    let a = triangle_id(rows, row, corner, 0);
+    let b = triangle_id(rows, row, corner, choose(turned, 2, 1));
+    let c = triangle_id(rows, row, corner, choose(turned, 1, 2));
+    put_ids(triangles, 3 * n, a, b, c);
 }
 
 // The row is inside, and its triangle that leaves out the corner is on the skin.
@@ -70,14 +57,14 @@ fn is_listed(table: Table, marks: &[u8], row: usize, corner: usize) -> bool
     is_inside(marks, row) && is_between(table.neighbours, marks, row, corner)
 }
 
-// The triangle is listed, outward, and rising ids are the wrong way.
-fn is_turned(listed: bool, order: Order, row: usize, corner: usize) -> bool
+// The triangle is listed outward, and rising ids are the wrong way.
+fn is_turned(order: Order, row: usize, corner: usize) -> bool
     requires { (row < rows_in (rows_of order)) × (corner < 4) }
-    ensures { result ≡ (listed && is_turned order.entry row corner) }
+    ensures { result ≡ is_turned order.entry row corner }
 {
     match order {
         Order::Rising(_) => false,
-        Order::Outward(placed) => listed && !placed.right_way(row, corner),
+        Order::Outward(placed) => !placed.right_way(row, corner),
     }
 }
 
@@ -94,9 +81,11 @@ pub fn list_skin(order: Order, marks: &[u8], triangles: &mut [u32]) -> usize
     for place in 0..end {
         let row = place / 4;
         let corner = place % 4;
-        let listed = is_listed(table, marks, row, corner);
-        let turned = is_turned(listed, order, row, corner);
-        n = put(listed, turned, table, row, corner, triangles, n);
+        if is_listed(table, marks, row, corner) {
+            let turned = is_turned(order, row, corner);
+            put(turned, table.rows, row, corner, triangles, n);
+            n += 1;
+        }
     }
     n
 }
