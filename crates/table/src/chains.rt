@@ -12,7 +12,8 @@ use crate::faces::FaceKind;
 use crate::row_count;
 use values::choose;
 
-// `head` has the first place of each key and `next` the one after each place; the number of places stands for none. Fixed memory holds both.
+// `head` has the first place of each key and `next` the one after each place; the number of places stands for none. Fixed memory, and no heap,
+// holds both; a walk along a chain looks up the next place and counts none, so no range goes over it.
 #[derive(Drop)]
 pub(crate) struct Chains {
     head: [u16; 8192],
