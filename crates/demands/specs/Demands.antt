@@ -20,7 +20,7 @@ use Rattle.rules.specs.Reading.Codes.{RoomShort, job_conditions}
 use Rattle.rules.specs.Reading.Listing.{ThreeRising, SideTriangle, InOrder}
 use Rattle.rules.specs.Reading.Outward.{listed_id, Passes, FacesOutward, AsRising}
 use Rattle.manifold.specs.Steps.{PassesEarlier, flipped, undoing}
-use Rattle.track.specs.declared.Outcome.{Outcome}
+use Rattle.track.specs.Outcomes.{Outcome}
 
 -- proposal k of a job
 abbrev pub proposal_at : Job → ℕ → Proposal
