@@ -1,5 +1,5 @@
 -- The demands follow from the contract of `track::run`, and say all that it says: they leave one possible result.
-use Rattle.std.specs.Prelude.{◌≡◌, refl, ◌⊎◌, ◌≢◌, List, ℕ, ◌+◌, ◌-◌, ◌<◌, leb, take}
+use Rattle.std.specs.Prelude.{◌≡◌, refl, ◌≢◌, List, ℕ, ◌+◌, ◌-◌, ◌<◌, leb, take}
 use Rattle.std.proofs.Common.{sym, ap, ap₂, ◌∙◌, ⊎_elim, arith, leb-true, leb-false}
 use Rattle.rules.specs.Proposals.{taken}
 use Rattle.rules.specs.Job.{track, header_of, Lent, codes, run}
