@@ -1,5 +1,6 @@
 -- The three demands, whole, of one run: the bytes of a job file, the four buffers as lent, what was returned, and the buffers as left; and
--- what document 02 promises beside them. `demands::run`, which is `track::run`, has them for its contract.
+-- what document 02 promises beside them. `demands::run`, which is `track::run`, has them for its contract. What was returned stands here as
+-- code, place and the two counts (`outcome_of` of `track`).
 use Rattle.std.specs.Prelude.{◌≡◌, ◌↔◌, ◌≢◌, ℕ, ◌+◌, ◌*◌, ◌≤◌, ◌<◌, length, get_or, take, drop, replicate}
 use Rattle.std.proofs.Math.Option.{some}
 use mathlib.Core.List.{List, ◌++◌, flatten}

@@ -1,15 +1,17 @@
--- Where an answer is an enum behind a definition that gives document 01's number and place: the case that these stand for. That the
--- definition tells its cases apart is what leaves one possible result.
+-- Where an answer is an option, or a result with an enum for its refusals, behind a definition that gives document 01's number and place: the
+-- case that these stand for. That the definition tells its cases apart is what leaves one possible result.
 use Rattle.std.specs.Prelude.{◌≡◌, refl, Bool, cond, List, ℕ, eqb, ℤ, Float, Option, Some, None, Result, Ok, Err}
 use Rattle.std.proofs.Common.{sym, ap, ◌∙◌}
 use Rattle.std.proofs.Math.Option as rules
 use Rattle.rules.specs.Table.{Table}
 use Rattle.rules.specs.First.{Verdict}
+use Rattle.rules.specs.Job.{Lent}
+use Rattle.rules.specs.Job as run
+use Rattle.rules.specs.Stl.{Wrote, Read, Exported}
 use Rattle.job.specs.declared.Header.{Header}
 use Rattle.job.specs.declared.Refused.{Refused}
 use Rattle.job.specs.declared.Refused.TheVariants as refused
 use Rattle.job.specs.Reading as job
-use Rattle.rules.specs.Stl.{Wrote, Read, Exported}
 use Rattle.stl.specs.declared.writer.Refusal as stl_writer
 use Rattle.stl.specs.declared.writer.Refusal.TheVariants as writing
 use Rattle.stl.specs.Writing as stl_writing
@@ -28,8 +30,6 @@ use Rattle.marks.specs.Start as start
 use Rattle.points.specs.declared.Misplaced.{Misplaced}
 use Rattle.points.specs.declared.Misplaced.TheVariants as misplaced
 use Rattle.points.specs.Placed as placed
-use Rattle.rules.specs.Job.{Lent}
-use Rattle.rules.specs.Job as run
 use Rattle.track.specs.declared.refusal.Grown.{Grown}
 use Rattle.track.specs.declared.refusal.Refusal.{Refusal}
 use Rattle.track.specs.declared.refusal.Refusal.TheVariants as refusal
@@ -135,7 +135,7 @@ stop_is t inside a b first second stop turned = record {
   only = λ other turned'. let (at, next) = turned_once t inside a b first second turned' turned in λ i. record { at = at i; next = next i };
 }
 
--- ---- `track::run`
+-- ---- `track::run` and `track_stl::write_skin`
 
 unfoldable pub refusal_at : Verdict → Refusal
 refusal_at v =
@@ -152,28 +152,39 @@ refusal_at v =
 unfoldable pub grown_at : Outcome → Result Grown Refusal
 grown_at o = cond (eqb o.code 0) (Ok (record { taken = o.taken; triangles = o.triangles })) (Err (refusal_at (record { code = o.code; place = o.place })))
 
+unfoldable pub unwritten_at : Verdict → Unwritten
+unwritten_at v = cond (eqb v.code 20) unwritten.NoPoints (cond (eqb v.code 21) unwritten.Room (unwritten.Run (refusal_at v)))
+
+unfoldable pub skin_at : Outcome → Result Grown Unwritten
+skin_at o = cond (eqb o.code 0) (Ok (record { taken = o.taken; triangles = o.triangles })) (Err (unwritten_at (record { code = o.code; place = o.place })))
+
+-- a refusal is told apart, whether of a run alone or of a run and its file
+refusal_back : (e : Refusal) → (grown_at (outcome_of (Err e)) ≡ Err e) × (skin_at (skin.outcome_of (Err (unwritten.Run e))) ≡ Err (unwritten.Run e))
+unfolding grown_at skin_at unwritten_at refusal_at
+refusal_back (refusal.Header refused.Short) = (refl, refl)
+refusal_back (refusal.Header refused.Limits) = (refl, refl)
+refusal_back (refusal.Header refused.Layout) = (refl, refl)
+refusal_back refusal.Room = (refl, refl)
+refusal_back (refusal.Table (broken.Row r)) = (refl, refl)
+refusal_back (refusal.Table (broken.Order r)) = (refl, refl)
+refusal_back (refusal.Table (broken.Triangle r)) = (refl, refl)
+refusal_back (refusal.Table (broken.Edge r)) = (refl, refl)
+refusal_back (refusal.Table (broken.Vertex r)) = (refl, refl)
+refusal_back (refusal.Marks (unfit.Mark r)) = (refl, refl)
+refusal_back (refusal.Marks (unfit.Outer r)) = (refl, refl)
+refusal_back (refusal.Marks (unfit.Vertex v)) = (refl, refl)
+refusal_back (refusal.Points (misplaced.Point v)) = (refl, refl)
+refusal_back (refusal.Points (misplaced.Flat r)) = (refl, refl)
+refusal_back (refusal.Points (misplaced.Folded r)) = (refl, refl)
+
 -- an outcome is that of one answer alone
 grown_is : (r : Result Grown Refusal) {o : Outcome} → outcome_of r ≡ o → r ≡ grown_at o
-unfolding grown_at refusal_at
+unfolding grown_at
 grown_is r e = sym (back r) ∙ ap grown_at e
   where
     back : (r : Result Grown Refusal) → grown_at (outcome_of r) ≡ r
     back (Ok grown) = refl
-    back (Err (refusal.Header refused.Short)) = refl
-    back (Err (refusal.Header refused.Limits)) = refl
-    back (Err (refusal.Header refused.Layout)) = refl
-    back (Err refusal.Room) = refl
-    back (Err (refusal.Table (broken.Row r))) = refl
-    back (Err (refusal.Table (broken.Order r))) = refl
-    back (Err (refusal.Table (broken.Triangle r))) = refl
-    back (Err (refusal.Table (broken.Edge r))) = refl
-    back (Err (refusal.Table (broken.Vertex r))) = refl
-    back (Err (refusal.Marks (unfit.Mark r))) = refl
-    back (Err (refusal.Marks (unfit.Outer r))) = refl
-    back (Err (refusal.Marks (unfit.Vertex v))) = refl
-    back (Err (refusal.Points (misplaced.Point v))) = refl
-    back (Err (refusal.Points (misplaced.Flat r))) = refl
-    back (Err (refusal.Points (misplaced.Folded r))) = refl
+    back (Err e) = (refusal_back e).0
 
 abbrev pub outcome_at : run.Result → Outcome
 outcome_at r = record { code = r.code; place = r.place; taken = r.taken; triangles = r.triangles }
@@ -182,35 +193,13 @@ outcome_at r = record { code = r.code; place = r.place; taken = r.taken; triangl
 pub run_is : (r : Result Grown Refusal) {left : Lent} {ran : run.Result} → result_of (outcome_of r) left ≡ ran → (r ≡ grown_at (outcome_at ran)) × (left ≡ ran.left)
 run_is r e = (grown_is r (ap outcome_at e), ap (λ (x : run.Result). x.left) e)
 
--- ---- `track_stl::write_skin`
-
-unfoldable pub unwritten_at : Verdict → Unwritten
-unwritten_at v = cond (eqb v.code 20) unwritten.NoPoints (cond (eqb v.code 21) unwritten.Room (unwritten.Run (refusal_at v)))
-
-unfoldable pub skin_at : Outcome → Result Grown Unwritten
-skin_at o = cond (eqb o.code 0) (Ok (record { taken = o.taken; triangles = o.triangles })) (Err (unwritten_at (record { code = o.code; place = o.place })))
-
 skin_is : (r : Result Grown Unwritten) {o : Outcome} → skin.outcome_of r ≡ o → r ≡ skin_at o
-unfolding skin_at unwritten_at refusal_at
+unfolding skin_at unwritten_at
 skin_is r e = sym (back r) ∙ ap skin_at e
   where
     back : (r : Result Grown Unwritten) → skin_at (skin.outcome_of r) ≡ r
     back (Ok grown) = refl
-    back (Err (unwritten.Run (refusal.Header refused.Short))) = refl
-    back (Err (unwritten.Run (refusal.Header refused.Limits))) = refl
-    back (Err (unwritten.Run (refusal.Header refused.Layout))) = refl
-    back (Err (unwritten.Run refusal.Room)) = refl
-    back (Err (unwritten.Run (refusal.Table (broken.Row r)))) = refl
-    back (Err (unwritten.Run (refusal.Table (broken.Order r)))) = refl
-    back (Err (unwritten.Run (refusal.Table (broken.Triangle r)))) = refl
-    back (Err (unwritten.Run (refusal.Table (broken.Edge r)))) = refl
-    back (Err (unwritten.Run (refusal.Table (broken.Vertex r)))) = refl
-    back (Err (unwritten.Run (refusal.Marks (unfit.Mark r)))) = refl
-    back (Err (unwritten.Run (refusal.Marks (unfit.Outer r)))) = refl
-    back (Err (unwritten.Run (refusal.Marks (unfit.Vertex v)))) = refl
-    back (Err (unwritten.Run (refusal.Points (misplaced.Point v)))) = refl
-    back (Err (unwritten.Run (refusal.Points (misplaced.Flat r)))) = refl
-    back (Err (unwritten.Run (refusal.Points (misplaced.Folded r)))) = refl
+    back (Err (unwritten.Run e)) = (refusal_back e).1
     back (Err unwritten.NoPoints) = refl
     back (Err unwritten.Room) = refl
 

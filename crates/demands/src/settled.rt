@@ -1,5 +1,6 @@
 // Calls whose contract is not an equation of their result: each here with the one result that it leaves. (For the other public calls the
-// contract itself is the equation.)
+// contract itself is the equation.) Each takes what its call takes, the four buffers one by one; the two of `tallies` also take the marks or V
+// for which the call's contract says what is given.
 ghost use Rattle.std.specs.Prelude.{◌≡◌, ◌≢◌, false, ◌*◌, ◌≤◌, ◌<◌, length, set};
 ghost use Rattle.std.proofs.Math.Option.{some};
 ghost use Rattle.rules.specs.Below.{lowest, bit};
