@@ -1,5 +1,5 @@
 -- Document 02 (vi) is kept: numbers, writing then reading, and reading then writing.
-use Rattle.std.specs.Prelude.{◌≡◌, refl, Bool, true, false, ◌↔◌, List, ℕ, ◌*◌, ◌≤◌, ◌<◌, eqb, Float, ℤ, length, get_or, take}
+use Rattle.std.specs.Prelude.{◌≡◌, refl, Bool, true, false, ◌↔◌, List, ℕ, ◌*◌, ◌≤◌, ◌<◌, eqb, Float, ℤ, length, get_or, take, Result, Ok, Err, is_ok}
 use Rattle.std.proofs.Common.{sym, ap₂, ◌∙◌, arith}
 use Rattle.std.proofs.Math.Path.{ap}
 use Rattle.std.proofs.Math.Option.{Option}
@@ -21,6 +21,12 @@ use Rattle.trips.proofs.Forth.{file_count, file_readable, file_units}
 use Rattle.trips.proofs.Back.{units_length, units_file, units_writable}
 use Rattle.trips.proofs.Trips.{Writable, wrote_exactly, Readable, read_exactly, wrote_front, read_front}
 use Rattle.trips.specs.Worked.{minus_zero_off, infinity_off, minus_infinity_off}
+use Rattle.stl.specs.declared.writer.Refusal as writer
+use Rattle.stl.specs.declared.writer.Refusal.TheVariants as writing
+use Rattle.stl.specs.Writing as stl_writing
+use Rattle.stl.specs.declared.reader.Refusal as reader
+use Rattle.stl.specs.declared.reader.Refusal.TheVariants as reading
+use Rattle.stl.specs.Reading as stl_reading
 use Rattle.demands.specs.Workshop.{Numbers, Filled, WrittenRead, ReadWritten}
 
 abbrev wrote : Verdict → List ℕ → Wrote
@@ -44,6 +50,24 @@ numbers = record {
   nan_off = λ bits nan. off bits (λ u (on, e). not_both nan (ap (nan_bits binary32) e ∙ (comes_back u on).number));
   infinities_off = (infinity_off, minus_infinity_off);
 }
+
+-- ---- a call is accepted exactly if its code is 0
+
+pub wrote_code : (answer : Result (Unit {0}) writer.Refusal) → is_ok answer ≡ eqb (stl_writing.verdict_of answer).code 0
+unfolding stl_writing.verdict_of
+wrote_code (Ok _) = refl
+wrote_code (Err writing.Facets) = refl
+wrote_code (Err (writing.Number k)) = refl
+wrote_code (Err writing.Room) = refl
+
+pub read_code : (answer : Result ℕ reader.Refusal) → is_ok answer ≡ eqb (stl_reading.verdict_of answer).code 0
+unfolding stl_reading.verdict_of
+read_code (Ok n) = refl
+read_code (Err reading.Length) = refl
+read_code (Err reading.Header) = refl
+read_code (Err reading.Room) = refl
+read_code (Err (reading.NotZero f)) = refl
+read_code (Err (reading.Off off)) = refl
 
 -- ---- each call by itself: it is accepted exactly if its list or its file is one that is taken, and fills its buffer then
 

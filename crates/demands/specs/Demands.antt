@@ -1,5 +1,6 @@
 -- The three demands, whole, of one run: the bytes of a job file, the four buffers as lent, what was returned, and the buffers as left; and
--- what document 02 promises beside them. `demands::run`, which is `track::run`, has them for its contract.
+-- what document 02 promises beside them. `demands::run`, which is `track::run`, has them for its contract. What was returned stands here as
+-- code, place and the two counts (`outcome_of` of `track`).
 use Rattle.std.specs.Prelude.{◌≡◌, ◌↔◌, ◌≢◌, ℕ, ◌+◌, ◌*◌, ◌≤◌, ◌<◌, length, get_or, take, drop, replicate}
 use Rattle.std.proofs.Math.Option.{some}
 use mathlib.Core.List.{List, ◌++◌, flatten}
@@ -20,7 +21,7 @@ use Rattle.rules.specs.Reading.Codes.{RoomShort, job_conditions}
 use Rattle.rules.specs.Reading.Listing.{ThreeRising, SideTriangle, InOrder}
 use Rattle.rules.specs.Reading.Outward.{listed_id, Passes, FacesOutward, AsRising}
 use Rattle.manifold.specs.Steps.{PassesEarlier, flipped, undoing}
-use Rattle.track.specs.declared.Outcome.{Outcome}
+use Rattle.track.specs.Outcomes.{Outcome}
 
 -- proposal k of a job
 abbrev pub proposal_at : Job → ℕ → Proposal

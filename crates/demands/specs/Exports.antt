@@ -27,8 +27,7 @@ use Rattle.rules.specs.Reading.Codes.{with_points_reads, run_code_below, refusal
 use Rattle.outward.specs.Row.{id_below}
 use Rattle.outward.proofs.Outward.{as_rising}
 use Rattle.job.specs.Reading.{header}
-use Rattle.track.specs.declared.Outcome.{Outcome}
-use Rattle.track.specs.Outcomes.{result_of}
+use Rattle.track.specs.Outcomes.{Outcome, result_of}
 use Rattle.track.specs.Accepted.{job_accepted, job_closed, place_is}
 use Rattle.track_stl.specs.Corners.{three_units, unit_before, unit_at_lem}
 use Rattle.track_stl.specs.Ran.{told, outward_few, ran_is, triangles_told}

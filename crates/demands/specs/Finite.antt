@@ -17,8 +17,7 @@ use Rattle.rules.specs.Reading.Listing.{finite_skin}
 use Rattle.rules.specs.Reading.Outward.{three_each}
 use Rattle.rules.proofs.Reading.Outward.{listed_ids}
 use Rattle.manifold.specs.Jobs.{job_alike}
-use Rattle.track.specs.declared.Outcome.{Outcome}
-use Rattle.track.specs.Outcomes.{result_of}
+use Rattle.track.specs.Outcomes.{Outcome, result_of}
 use Rattle.track.specs.Accepted.{job_accepted}
 use Rattle.demands.specs.Demands.{Demand2, FiniteSkin}
 use Rattle.demands.specs.Grown.{demand_2}

@@ -4,8 +4,7 @@ use Rattle.std.proofs.Common.{sym, ap, ◌∙◌}
 use Rattle.rules.specs.Job.{track, Lent, Result, run}
 use Rattle.rules.specs.Reading.Codes.{run_code_below, refusal_keeps, early_refusal, late_refusal}
 use Rattle.rules.proofs.Reading.Codes.{code_exactly, accepted_exactly}
-use Rattle.track.specs.declared.Outcome.{Outcome}
-use Rattle.track.specs.Outcomes.{result_of}
+use Rattle.track.specs.Outcomes.{Outcome, result_of}
 use Rattle.demands.specs.Demands.{Demand1}
 
 module _ (bytes : List ℕ) (before : Lent) {o : Outcome} {after : Lent} (ran : result_of o after ≡ run track bytes before) where

@@ -19,8 +19,7 @@ use Rattle.rules.specs.Reading.Skin.{inside_reads}
 use Rattle.rules.specs.Reading.Room.{skin_same_length, skin_once, skin_listed}
 use Rattle.rules.specs.Reading.Listing.{triangle_rises, sides_listed, skin_order}
 use Rattle.manifold.specs.Steps.{after_taken, after_refused}
-use Rattle.track.specs.declared.Outcome.{Outcome}
-use Rattle.track.specs.Outcomes.{result_of}
+use Rattle.track.specs.Outcomes.{Outcome, result_of}
 use Rattle.track.specs.Accepted.{job_closed, answers_are, marks_are, triangles_are, work_is, taken_is, triangles_is, place_is}
 use Rattle.demands.specs.Demands.{proposal_at, Demand2}
 

@@ -1,11 +1,10 @@
 -- The demands follow from the contract of `track::run`, and say all that it says: they leave one possible result.
-use Rattle.std.specs.Prelude.{◌≡◌, refl, ◌⊎◌, ◌≢◌, List, ℕ, ◌+◌, ◌-◌, ◌<◌, leb, take}
+use Rattle.std.specs.Prelude.{◌≡◌, refl, ◌≢◌, List, ℕ, ◌+◌, ◌-◌, ◌<◌, leb, take}
 use Rattle.std.proofs.Common.{sym, ap, ap₂, ◌∙◌, ⊎_elim, arith, leb-true, leb-false}
 use Rattle.rules.specs.Proposals.{taken}
 use Rattle.rules.specs.Job.{track, header_of, Lent, codes, run}
 use Rattle.rules.specs.Laws.Truth.{true_or_false, same_or_not}
-use Rattle.track.specs.declared.Outcome.{Outcome}
-use Rattle.track.specs.Outcomes.{result_of}
+use Rattle.track.specs.Outcomes.{Outcome, result_of}
 use Rattle.demands.specs.Demands.{Demands}
 use Rattle.demands.specs.Given.{demand_1}
 use Rattle.demands.specs.Grown.{demand_2}

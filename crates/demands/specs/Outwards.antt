@@ -22,8 +22,7 @@ use Rattle.rules.proofs.Reading.File.{outward_points}
 use Rattle.rules.specs.Reading.Codes.{accepted_points}
 use Rattle.manifold.proofs.Jobs.{job_every_step}
 use Rattle.outward.proofs.Outward.{as_rising, outward_list, outward_words, faces, each_way}
-use Rattle.track.specs.declared.Outcome.{Outcome}
-use Rattle.track.specs.Outcomes.{result_of}
+use Rattle.track.specs.Outcomes.{Outcome, result_of}
 use Rattle.track.specs.Accepted.{job_accepted, job_closed}
 use Rattle.demands.specs.Demands.{Demand2, OutwardSkin}
 use Rattle.demands.specs.Grown.{demand_2}

@@ -20,8 +20,7 @@ use Rattle.rules.proofs.Reading.Codes.{accepted_header, accepted_length}
 use Rattle.manifold.specs.Steps.{flipped, taken_earlier, refused_earlier, undoing, undoing_front, undoing_length}
 use Rattle.manifold.specs.Jobs.{cut_run}
 use Rattle.manifold.proofs.Jobs.{job_every_step, job_five_cases, job_backwards, undone_run}
-use Rattle.track.specs.declared.Outcome.{Outcome}
-use Rattle.track.specs.Outcomes.{result_of}
+use Rattle.track.specs.Outcomes.{Outcome, result_of}
 use Rattle.track.specs.Accepted.{job_accepted, job_closed, answers_are, marks_are, taken_is}
 use Rattle.demands.specs.Demands.{proposal_at, CleanWith, PassesAt, OnSkinAt, marks_back, backwards, Demand3}
 use Rattle.demands.specs.Grown.{each_answer, final_is}

@@ -11,8 +11,7 @@ use Rattle.rules.specs.Worked.{Worked, ran}
 use Rattle.rules.specs.Worked.Document.{whole_a, document_jobs_lem}
 use Rattle.rules.specs.Worked.Ours.{removes_d, answer_jobs_lem}
 use Rattle.rules.specs.Worked.Pointed.{rising_p, outward_p, order_jobs_lem}
-use Rattle.track.specs.declared.Outcome.{Outcome}
-use Rattle.track.specs.Outcomes.{result_of}
+use Rattle.track.specs.Outcomes.{Outcome, result_of}
 use Rattle.demands.specs.Demands.{proposal_at, Demands}
 use Rattle.demands.specs.Kept.{say_all}
 

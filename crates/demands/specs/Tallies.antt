@@ -13,8 +13,7 @@ use Rattle.rules.specs.Reading.Codes.{RoomShort}
 use Rattle.rules.proofs.Reading.Codes.{accepted_header}
 use Rattle.rules.specs.Reading.Work.{work_length, work_inside, work_every, inside_tallied, every_tallied}
 use Rattle.manifold.specs.Jobs.{cut_run}
-use Rattle.track.specs.declared.Outcome.{Outcome}
-use Rattle.track.specs.Outcomes.{result_of}
+use Rattle.track.specs.Outcomes.{Outcome, result_of}
 use Rattle.track.specs.Accepted.{job_accepted, work_is}
 use Rattle.demands.specs.Demands.{CornerTallies}
 

@@ -12,8 +12,7 @@ use Rattle.rules.specs.Laws.Count.{ExactlyOne}
 use Rattle.rules.specs.Reading.Points.{InRange}
 use Rattle.rules.specs.Reading.Skin.{Inside, SkinTriangle}
 use Rattle.rules.specs.Reading.Outward.{listed_id, Passes, FacesOutward, AsRising}
-use Rattle.track.specs.declared.Outcome.{Outcome}
-use Rattle.track.specs.Outcomes.{result_of}
+use Rattle.track.specs.Outcomes.{Outcome, result_of}
 use Rattle.trips.proofs.Trips.{Writable, Readable}
 
 -- A number: the units divided by 16, which loses nothing.

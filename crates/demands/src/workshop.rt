@@ -1,49 +1,26 @@
 // Document 02 (vi) on functions that make its calls (specs/Workshop.antt). No program calls them: they are there to be proved.
-ghost use Rattle.std.specs.Prelude.{◌≡◌, eqb};
+ghost use Rattle.std.specs.Prelude.{◌≡◌};
 ghost use Rattle.rules.specs.Stl.{write_facets, read_file};
-ghost use Rattle.stl.specs.Writing as writing;
-ghost use Rattle.stl.specs.Reading as reading;
 ghost use Rattle.track.specs.Outcomes.{lent};
+ghost use Rattle.track_stl.specs.Outcomes.{outcome_of};
 ghost use Rattle.demands.specs.Settled.{writing_at, file_reading_at};
 ghost use Rattle.demands.specs.Workshop.{WrittenRead, ReadWritten, SkinFile};
 
-use stl::reader::{Reading, read_file};
-use stl::writer::{Writing, write_facets};
-use track::Outcome;
+use stl::reader::read_file;
+use stl::writer::write_facets;
+use stl::{reader, writer};
+use track::refusal::Grown;
+use track_stl::unwritten::Unwritten;
 use track_stl::write_skin;
 
-fn is_done(answer: Writing) -> bool
-    ensures { result ≡ eqb (writing.verdict_of answer).code 0 }
-{
-    match answer {
-        Writing::Done => true,
-        Writing::Facets => false,
-        Writing::Number(_) => false,
-        Writing::Room => false,
-    }
-}
-
-fn is_read(answer: Reading) -> bool
-    ensures { result ≡ eqb (reading.verdict_of answer).code 0 }
-{
-    match answer {
-        Reading::Facets(_) => true,
-        Reading::Length => false,
-        Reading::Header => false,
-        Reading::Room => false,
-        Reading::NotZero(_) => false,
-        Reading::Off(_, _, _) => false,
-    }
-}
-
 // The one result of each of the two calls (specs/Settled.antt).
-pub(crate) fn facets_written(units: &[i16], file: &mut [u8]) -> Writing
+pub(crate) fn facets_written(units: &[i16], file: &mut [u8]) -> Result<(), writer::Refusal>
     ensures { (result ≡ writing_at (write_facets units.now file.old).verdict) × (file.new ≡ (write_facets units.now file.old).left) }
 {
     write_facets(units, file)
 }
 
-pub(crate) fn file_read(file: &[u8], units: &mut [i16]) -> Reading
+pub(crate) fn file_read(file: &[u8], units: &mut [i16]) -> Result<u32, reader::Refusal>
     ensures { (result ≡ file_reading_at (read_file file.now units.old)) × (units.new ≡ (read_file file.now units.old).left) }
 {
     read_file(file, units)
@@ -53,22 +30,22 @@ pub(crate) fn file_read(file: &[u8], units: &mut [i16]) -> Reading
 pub(crate) fn write_then_read(units: &[i16], file: &mut [u8], back: &mut [i16]) -> bool
     ensures { WrittenRead units.now file.old back.old result file.new back.new }
 {
-    if !is_done(write_facets(units, file)) {
+    if write_facets(units, file).is_err() {
         return false;
     }
     let size = 84 + 50 * (units.len() / 9);
-    is_read(read_file(&file[..size], back))
+    read_file(&file[..size], back).is_ok()
 }
 
 // Reads a file, and writes the units that were read.
 pub(crate) fn read_then_write(file: &[u8], units: &mut [i16], again: &mut [u8]) -> bool
     ensures { ReadWritten file.now units.old again.old result units.new again.new }
 {
-    if !is_read(read_file(file, units)) {
+    if read_file(file, units).is_err() {
         return false;
     }
     let size = (file.len() - 84) / 50 * 9;
-    is_done(write_facets(&units[..size], again))
+    write_facets(&units[..size], again).is_ok()
 }
 
 // Runs a job, and writes its skin.
@@ -79,9 +56,9 @@ pub(crate) fn write_job(
     triangles: &mut [u32],
     work: &mut [u32],
     file: &mut [u8],
-) -> Outcome
+) -> Result<Grown, Unwritten>
     ensures { SkinFile job.now (lent answers.old final_marks.old triangles.old work.old) file.old
-        result (lent answers.new final_marks.new triangles.new work.new) file.new }
+        (outcome_of result) (lent answers.new final_marks.new triangles.new work.new) file.new }
 {
     write_skin(job, answers, final_marks, triangles, work, file)
 }
