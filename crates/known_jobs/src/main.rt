@@ -6,7 +6,7 @@ mod print;
 
 ghost use Rattle.std.specs.Prelude.{◌≤◌};
 
-use print::{print_numbers, print_outcome};
+use print::{print_answer, print_numbers};
 use std::io;
 use track::run;
 
@@ -61,8 +61,8 @@ fn show<R: Print>(
     triangles: &mut [u32],
     work: &mut [u32],
 ) -> io::Result<()> {
-    let r = run(job, answers, final_marks, triangles, work);
-    print_outcome(rt, name, r)?;
+    let answer = run(job, answers, final_marks, triangles, work);
+    print_answer(rt, name, answer)?;
     print_numbers(rt, b"answers", answers)?;
     print_numbers(rt, b"final marks", final_marks)?;
     print_numbers(rt, b"triangles", triangles)?;

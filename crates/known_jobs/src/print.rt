@@ -1,7 +1,7 @@
 // A line of a name and numbers.
 use std::fmt::Display;
 use std::io;
-use track::Outcome;
+use track::refusal::{Grown, Refusal};
 
 pub(crate) fn print_numbers<R: Print, N: Display>(
     rt: &R,
@@ -15,6 +15,18 @@ pub(crate) fn print_numbers<R: Print, N: Display>(
     rt.write_all(b"\n")
 }
 
-pub(crate) fn print_outcome<R: Print>(rt: &R, name: &[u8], r: Outcome) -> io::Result<()> {
-    print_numbers(rt, name, &[r.code, r.place, r.taken, r.triangles])
+// Code, place, taken and triangles.
+pub(crate) fn print_answer<R: Print>(
+    rt: &R,
+    name: &[u8],
+    answer: Result<Grown, Refusal>,
+) -> io::Result<()> {
+    let numbers = match answer {
+        Ok(grown) => [0, 0, grown.taken, grown.triangles],
+        Err(refusal) => {
+            let (code, place) = refusal.code_and_place();
+            [code, place, 0, 0]
+        }
+    };
+    print_numbers(rt, name, &numbers)
 }

@@ -17,8 +17,7 @@ use Rattle.rules.specs.Reading.Outward.{three_each}
 use Rattle.rules.specs.Reading.Codes.{run_accepted, run_code, layout_passed}
 use Rattle.rules.proofs.Reading.Codes.{accepted_header}
 use Rattle.rules.proofs.Reading.Small.{triangles_small}
-use Rattle.track.specs.declared.Outcome.{Outcome}
-use Rattle.track.specs.Outcomes.{lent, result_of}
+use Rattle.track.specs.Outcomes.{Outcome, lent, result_of}
 use Rattle.lines.specs.Listing.{answer_line, answer_lines, triangle_line, triangle_lines, done_text, refused_text, listing, zeros, listing_of}
 use Rattle.lines.specs.Put.{Put, put_front}
 

@@ -1,5 +1,5 @@
 -- An input that is longer than any job: its front alone has the same run, and the same listing.
-use Rattle.std.specs.Prelude.{◌≡◌, refl, ◌≢◌, Bool, true, false, cond, List, ℕ, ◌+◌, ◌≤◌, length, take}
+use Rattle.std.specs.Prelude.{◌≡◌, ◌≢◌, Bool, true, false, cond, List, ℕ, ◌+◌, ◌≤◌, length, take}
 use Rattle.std.proofs.Common.{sym, ap, ◌∙◌, zero-add, arith, length-take-le}
 use Rattle.std.proofs.Math.Logic.{⊎_elim}
 use borrow.Author.Tests.{le-ltb}
@@ -46,7 +46,7 @@ module _ (job : List ℕ) (long : 65536 ≤ length job) where
       go false e = omega arith
 
   long_run : (buffers : Lent) → result_of (refusal (long_verdict (header_of job))) buffers ≡ run track job buffers
-  long_run buffers = header_refused job buffers verdict_is some_code refl
+  long_run buffers = header_refused job buffers verdict_is some_code
 
   -- it is refused
   pub long_code_lem : (buffers : Lent) → (run track job buffers).code ≢ 0

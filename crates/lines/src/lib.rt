@@ -42,23 +42,26 @@ pub fn list_job(job: &[u8], out: &mut [u8]) -> usize
     let mut final_marks = [0u8; 2048];
     let mut triangles = [0u32; 12288];
     let mut work = [0u32; 10240];
-    let r = run(
+    let ran = run(
         job,
         &mut answers,
         &mut final_marks,
         &mut triangles,
         &mut work,
     );
-    if r.code != 0 {
-        let numbers = [r.code, r.place];
-        return refused_line(&numbers, out);
+    match ran {
+        Ok(grown) => put_done(
+            proposals_of(job),
+            grown.taken,
+            grown.triangles,
+            &answers,
+            &triangles,
+            out,
+        ),
+        Err(refusal) => {
+            let (code, place) = refusal.code_and_place();
+            let numbers = [code, place];
+            refused_line(&numbers, out)
+        }
     }
-    put_done(
-        proposals_of(job),
-        r.taken,
-        r.triangles,
-        &answers,
-        &triangles,
-        out,
-    )
 }

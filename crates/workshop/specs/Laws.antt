@@ -1,5 +1,5 @@
 -- The reader's answers, and what is said of each.
-use Rattle.std.specs.Prelude.{◌≡◌, Bool, true, false, ℕ, ◌*◌, ◌≤◌, eqb, ℤ, pos, take, drop, replicate}
+use Rattle.std.specs.Prelude.{◌≡◌, Bool, true, false, ℕ, ◌*◌, ◌≤◌, eqb, ℤ, pos, take, drop, replicate, Result, Ok}
 use Rattle.std.proofs.Math.Path.{sym, ap}
 use Rattle.std.proofs.Common.{◌∙◌, length-take-le}
 use mathlib.Core.List.{List}
@@ -11,8 +11,7 @@ use Rattle.lines.specs.Listing.{line, word_refused}
 use Rattle.lines.specs.Facets.{facets_text}
 use Rattle.lines.specs.Put.{front_within}
 use Rattle.stl.specs.Reading.{verdict_of, facets_in, told}
-use Rattle.stl.specs.declared.reader.Reading.{Reading}
-use Rattle.stl.specs.declared.reader.Reading.TheVariants.{Facets}
+use Rattle.stl.specs.declared.reader.Refusal.{Refusal}
 use Rattle.trips.proofs.Readable.{read_exactly, read_verdict}
 use Rattle.trips.proofs.Back.{units_length}
 use Rattle.trips.proofs.Trips.{read_front}
@@ -20,7 +19,7 @@ use Rattle.workshop.specs.Said.{zeros, refusal, file_refused, file_said, Says}
 
 -- ---- a refusal
 
-pub refusal_said : (bytes : List ℕ) {a b : Reading} → a ≡ b → {left : List ℤ} → told a left ≡ read_file bytes (replicate 36864 (pos 0)) → eqb (verdict_of b).code 0 ≡ false
+pub refusal_said : (bytes : List ℕ) {a b : Result ℕ Refusal} → a ≡ b → {left : List ℤ} → told a left ≡ read_file bytes (replicate 36864 (pos 0)) → eqb (verdict_of b).code 0 ≡ false
     → {numbers : List ℕ} → numbers ≡ refusal (told b left) → {out out' : List ℕ} {size : ℕ} {no : Bool}
     → Says (line word_refused numbers) true out size no out' → Says (file_said bytes) (file_refused bytes) out size no out'
 unfolding file_said file_refused zeros
@@ -30,8 +29,8 @@ refusal_said bytes {b = b} variant {left} is code e s =
 
 -- ---- a file that is read
 
-module _ (bytes : List ℕ) {a : Reading} {facets : ℕ} (variant : a ≡ Facets facets) {left : List ℤ} (is : told a left ≡ read_file bytes (replicate 36864 (pos 0))) where
-  answer : told (Facets facets) left ≡ read_file bytes zeros
+module _ (bytes : List ℕ) {a : Result ℕ Refusal} {facets : ℕ} (variant : a ≡ Ok facets) {left : List ℤ} (is : told a left ≡ read_file bytes (replicate 36864 (pos 0))) where
+  answer : told (Ok facets) left ≡ read_file bytes zeros
   unfolding zeros
   answer = rw variant at is
 

@@ -23,9 +23,12 @@ use Rattle.rules.specs.Laws.Stl.{file_length_lem}
 use Rattle.rules.specs.Reading.Room.{skin_words}
 use Rattle.rules.specs.Reading.Outward.{three_each}
 use Rattle.rules.proofs.Reading.Small.{triangles_small}
-use Rattle.track.specs.declared.Outcome.{Outcome}
-use Rattle.track.specs.Outcomes.{lent, result_of}
+use Rattle.track.specs.Outcomes.{Outcome, lent, result_of}
+use Rattle.track.specs.Refusals.{refusal_code}
 use Rattle.track_stl.specs.Corners.{three_units}
+use Rattle.track_stl.specs.declared.unwritten.Unwritten.{Unwritten}
+use Rattle.track_stl.specs.declared.unwritten.Unwritten.TheVariants.{Run, NoPoints, Room}
+use Rattle.track_stl.specs.Outcomes.{verdict_of}
 use Rattle.track_stl.specs.Ran.{told, triangles_told}
 use Rattle.lines.specs.Listing.{line, word_refused, refused_text, zeros}
 use Rattle.lines.specs.Long.{front_long, long_code_lem, run_enough}
@@ -123,6 +126,12 @@ module _ (bytes : List ℕ) where
       (file_length_lem (corners_of at (outward_skin (job_of track bytes))) ∙ ap file_length (corners_long at))
 
 -- ---- what is said of each answer
+
+-- no refusal has code 0
+pub unwritten_code : (e : Unwritten) → (verdict_of e).code ≢ 0
+unwritten_code (Run e) = refusal_code e
+unwritten_code NoPoints = λ z. omega arith
+unwritten_code Room = λ z. omega arith
 
 module _ (job file : List ℕ) (room : 204884 ≡ length file) {o : Outcome} {left : Lent} {after : List ℕ}
     (is : told o left after ≡ write_skin track job (lent (replicate 1024 0) (replicate 2048 0) (replicate 12288 0) (replicate 10240 0)) file) where

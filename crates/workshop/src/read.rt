@@ -5,7 +5,7 @@ ghost use Rattle.workshop.specs.Said.{file_said, file_refused, Says, size_in, re
 use crate::said::{Said, refused, refused_off, say, tell_script};
 use lines::facets::{FACETS_ROOM, list_facets};
 use std::rt::HostRuntime;
-use stl::reader::{Reading, read_file};
+use stl::reader::{Refusal, read_file};
 use streams::failure::fail;
 use streams::input::read_input;
 
@@ -16,12 +16,12 @@ fn list_file(file: &[u8], out: &mut [u8]) -> Said
 {
     let mut units = [0i16; 36864];
     match read_file(file, &mut units) {
-        Reading::Facets(count) => Ok(list_facets(&units[..9 * (count as usize)], out)),
-        Reading::Length => refused(1, 0, out),
-        Reading::Header => refused(2, 0, out),
-        Reading::Room => refused(3, 0, out),
-        Reading::NotZero(facet) => refused(4, facet as usize, out),
-        Reading::Off(_, bits, facet) => refused_off(facet as usize, bits as usize, out),
+        Ok(count) => Ok(list_facets(&units[..9 * (count as usize)], out)),
+        Err(Refusal::Length) => refused(1, 0, out),
+        Err(Refusal::Header) => refused(2, 0, out),
+        Err(Refusal::Room) => refused(3, 0, out),
+        Err(Refusal::NotZero(facet)) => refused(4, facet as usize, out),
+        Err(Refusal::Off(off)) => refused_off(off.facet as usize, off.bits as usize, out),
     }
 }
 

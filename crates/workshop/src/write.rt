@@ -18,7 +18,7 @@ fn put_skin(job: &[u8], file: &mut [u8]) -> Said
     let mut final_marks = [0u8; 2048];
     let mut triangles = [0u32; 12288];
     let mut work = [0u32; 10240];
-    let r = write_skin(
+    let written = write_skin(
         job,
         &mut answers,
         &mut final_marks,
@@ -26,10 +26,13 @@ fn put_skin(job: &[u8], file: &mut [u8]) -> Said
         &mut work,
         file,
     );
-    if r.code != 0 {
-        return refused(r.code, r.place, file);
+    match written {
+        Ok(grown) => Ok(84 + 50 * grown.triangles),
+        Err(unwritten) => {
+            let (code, place) = unwritten.code_and_place();
+            refused(code, place, file)
+        }
     }
-    Ok(84 + 50 * r.triangles)
 }
 
 // Of a longer input the first 65,536 bytes are read. No job is as long, so it is refused, and `skin_enough` says that its front gets the

@@ -6,30 +6,30 @@ use Rattle.workshop.specs.Laws.{refusal_said, within, facets_said}
 use Rattle.workshop.proofs.read.list_file.Goals as goal
 
 pub slice_bounds-units-end : goal.slice_bounds-units-end
-slice_bounds-units-end c = within _ c.in-Facets.is c.read_file.ensures
+slice_bounds-units-end c = within _ c.in-Ok.is c.read_file.ensures
 
 pub slice_bounds-list_facets-end : goal.slice_bounds-list_facets-end
-slice_bounds-list_facets-end c = sym (length-take-le _ _ (within _ c.in-Facets.is c.read_file.ensures))
+slice_bounds-list_facets-end c = sym (length-take-le _ _ (within _ c.in-Ok.is c.read_file.ensures))
 
-pub returns-in-Facets : goal.returns-in-Facets
-returns-in-Facets c = facets_said _ c.in-Facets.is c.read_file.ensures c.list_facets.ensures
+pub returns-in-Ok : goal.returns-in-Ok
+returns-in-Ok c = facets_said _ c.in-Ok.is c.read_file.ensures c.list_facets.ensures
 
-pub returns-in-Length : goal.returns-in-Length
+pub returns-in-Err-Length : goal.returns-in-Err-Length
 unfolding verdict_of off_in bits_told refusal
-returns-in-Length c = refusal_said _ c.in-Length.is c.read_file.ensures refl refl c.refused.ensures
+returns-in-Err-Length c = refusal_said _ (rw c.in-Err-Length.field-0-is at c.in-Err-Length.is) c.read_file.ensures refl refl c.refused.ensures
 
-pub returns-in-Header : goal.returns-in-Header
+pub returns-in-Err-Header : goal.returns-in-Err-Header
 unfolding verdict_of off_in bits_told refusal
-returns-in-Header c = refusal_said _ c.in-Header.is c.read_file.ensures refl refl c.refused-in-Header.ensures
+returns-in-Err-Header c = refusal_said _ (rw c.in-Err-Header.field-0-is at c.in-Err-Header.is) c.read_file.ensures refl refl c.refused-in-Err-Header.ensures
 
-pub returns-in-Room : goal.returns-in-Room
+pub returns-in-Err-Room : goal.returns-in-Err-Room
 unfolding verdict_of off_in bits_told refusal
-returns-in-Room c = refusal_said _ c.in-Room.is c.read_file.ensures refl refl c.refused-in-Room.ensures
+returns-in-Err-Room c = refusal_said _ (rw c.in-Err-Room.field-0-is at c.in-Err-Room.is) c.read_file.ensures refl refl c.refused-in-Err-Room.ensures
 
-pub returns-in-NotZero : goal.returns-in-NotZero
+pub returns-in-Err-NotZero : goal.returns-in-Err-NotZero
 unfolding verdict_of off_in bits_told refusal
-returns-in-NotZero c = refusal_said _ c.in-NotZero.is c.read_file.ensures refl refl c.refused-in-NotZero.ensures
+returns-in-Err-NotZero c = refusal_said _ (rw c.in-Err-NotZero.field-0-is at c.in-Err-NotZero.is) c.read_file.ensures refl refl (rw c.in-Err-NotZero.field-0-is at c.refused-in-Err-NotZero.ensures)
 
-pub returns-in-Off : goal.returns-in-Off
+pub returns-in-Err-Off : goal.returns-in-Err-Off
 unfolding verdict_of off_in bits_told refusal
-returns-in-Off c = refusal_said _ c.in-Off.is c.read_file.ensures refl refl c.refused_off.ensures
+returns-in-Err-Off c = refusal_said _ (rw c.in-Err-Off.field-0-is at c.in-Err-Off.is) c.read_file.ensures refl refl (rw c.in-Err-Off.field-0-is at c.refused_off.ensures)

@@ -1,16 +1,18 @@
 -- Each answer of the job's writer, and what is said of it.
 use Rattle.std.proofs.Common.{refl, arith}
-use Rattle.workshop.specs.Written.{few, job_refusal, job_file}
+use Rattle.workshop.specs.Written.{few, unwritten_code, job_refusal, job_file}
 use Rattle.workshop.proofs.write.put_skin.Goals as goal
 
-pub returns-then-r-ne0 : goal.returns-then-r-ne0
-returns-then-r-ne0 c = job_refusal _ _ c.requires c.write_skin-r.ensures c.if-r-ne0.true c.refused.ensures
-
 pub overflow_mul-result : goal.overflow_mul-result
-overflow_mul-result c = omega (arith, few _ _ c.requires c.write_skin-r.ensures c.if-r-ne0.false)
+overflow_mul-result c = omega (arith, few _ _ c.requires (rw c.in-Ok.is at c.write_skin-written.ensures) refl)
 
 pub overflow_add-result : goal.overflow_add-result
-overflow_add-result c = omega (arith, few _ _ c.requires c.write_skin-r.ensures c.if-r-ne0.false)
+overflow_add-result c = omega (arith, few _ _ c.requires (rw c.in-Ok.is at c.write_skin-written.ensures) refl)
 
-pub returns : goal.returns
-returns c = job_file _ _ c.requires c.write_skin-r.ensures c.if-r-ne0.false refl
+pub returns-in-Ok : goal.returns-in-Ok
+returns-in-Ok c = job_file _ _ c.requires (rw c.in-Ok.is at c.write_skin-written.ensures) refl refl
+
+pub returns-in-Err : goal.returns-in-Err
+returns-in-Err c =
+    let (code_is, place_is) = c.code_and_place-code.ensures in
+    job_refusal _ _ c.requires (rw c.in-Err.is at c.write_skin-written.ensures) (unwritten_code c.in-Err.unwritten) (rw (code_is, place_is) at c.refused.ensures)
