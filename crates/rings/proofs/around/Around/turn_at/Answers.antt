@@ -3,12 +3,12 @@ use Rattle.rings.specs.Tested.{marked_of}
 use Rattle.rings.specs.Follow.{landed}
 use Rattle.rings.specs.Sides.{between_near}
 use Rattle.std.proofs.lemmas.Bool.{not-true, not-false}
-use Rattle.rings.proofs.ring.turn_at.Goals as goal
+use Rattle.rings.proofs.around.Around.turn_at.Goals as goal
 
 pub turn-to-requires : goal.turn-to-requires
 turn-to-requires c =
-    let marked = marked_of c.args.marked.table.tested c.args.marked.tested in
-    let (_, (_, here)) = c.requires in
+    let marked = marked_of c.args.self.marked.table.tested c.args.self.marked.tested in
+    let (_, here) = c.requires in
     (omega (arith, marked.each), here.differ.0, between_near marked.closed.paired refl here)
 
 pub returns-then-not-is_two : goal.returns-then-not-is_two
@@ -16,5 +16,5 @@ returns-then-not-is_two c = sym (not-true c.is_two.result (ap not c.if-not-is_tw
 
 pub returns : goal.returns
 returns c =
-    let marked = marked_of c.args.marked.table.tested c.args.marked.tested in
-    rw c.onward-way.ensures.1 (landed marked.closed refl c.requires.1 c.turn-to.ensures (sym (not-false c.is_two.result (ap not c.if-not-is_two.false)) ∙ c.is_two.ensures))
+    let marked = marked_of c.args.self.marked.table.tested c.args.self.marked.tested in
+    rw c.onward-way.ensures.1 (landed marked.closed refl c.requires c.turn-to.ensures (sym (not-false c.is_two.result (ap not c.if-not-is_two.false)) ∙ c.is_two.ensures))
