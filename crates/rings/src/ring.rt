@@ -1,10 +1,10 @@
 // The ring of a vertex, followed through the neighbour list.
-ghost use Rattle.std.specs.Prelude.{◌≡◌, ◌*◌};
+ghost use Rattle.std.specs.Prelude.{◌≡◌, ◌≢◌, ◌*◌};
 ghost use Rattle.rules.specs.Below.{count};
 ghost use Rattle.rules.specs.Skin.{one_ring};
 ghost use Rattle.rules.specs.Proposals.{inside_in};
 ghost use Rattle.table.specs.Rows.{table_in, rows_in};
-ghost use Rattle.round.specs.Edge.{Turned};
+ghost use Rattle.round.specs.Edge.{Near, Turned};
 ghost use Rattle.rings.specs.Far.{first_end, shown_at};
 ghost use Rattle.rings.specs.Tallies.{Tallied};
 ghost use Rattle.rings.specs.Follow.{SkinEdge, RingsBelow, two_far, LandedAt};
@@ -25,6 +25,30 @@ pub(crate) struct Landing {
 }
 
 impl Around<'_> {
+    // The edge of the vertex and an end.
+    fn edge(self, end: usize) -> Edge
+        ensures { (result.a ≡ self.entry.vertex) × (result.b ≡ end) }
+    {
+        Edge {
+            a: self.vertex,
+            b: end,
+        }
+    }
+
+    // From row `first` to row `second` and on about the edge of the vertex and an end, as `round::turn` says.
+    fn turn(self, end: usize, first: usize, second: usize) -> Stop
+        requires { (self.vertex ≢ end) × Near (table_in self.marked.table.rows.now) self.vertex end second first }
+        ensures { Turned (table_in self.entry.marked.table.rows.now) (inside_in self.entry.marked.marks.now) self.entry.vertex end first second result.at result.next }
+    {
+        turn(
+            self.marked.table,
+            self.marked.marks,
+            self.edge(end),
+            first,
+            second,
+        )
+    }
+
     // The end lies on two far edges of the vertex: about their common edge one comes through the outside rows to the skin triangle that one
     // comes to through the inside rows. For an end below `low` the ring of that end has told it.
     fn is_two(self, from: Landing, within: Stop) -> bool
@@ -35,17 +59,7 @@ impl Around<'_> {
         if from.end < self.low {
             return true;
         }
-        let edge = Edge {
-            a: self.vertex,
-            b: from.end,
-        };
-        let without = turn(
-            self.marked.table,
-            self.marked.marks,
-            edge,
-            from.inner,
-            from.outer,
-        );
+        let without = self.turn(from.end, from.inner, from.outer);
         (without.next == within.at) & (without.at == within.next)
     }
 
@@ -55,21 +69,11 @@ impl Around<'_> {
         requires { SkinEdge (table_in self.marked.table.rows.now) (inside_in self.marked.marks.now) self.vertex from.end from.inner from.outer }
         ensures { LandedAt (table_in self.entry.marked.table.rows.now) (inside_in self.entry.marked.marks.now) self.entry.marked.ids self.entry.vertex from.end from.inner from.outer result }
     {
-        let edge = Edge {
-            a: self.vertex,
-            b: from.end,
-        };
-        let to = turn(
-            self.marked.table,
-            self.marked.marks,
-            edge,
-            from.outer,
-            from.inner,
-        );
+        let to = self.turn(from.end, from.outer, from.inner);
         if !self.is_two(from, to) {
             return None;
         }
-        let way = onward(self.marked.table, edge, to.next, to.at);
+        let way = onward(self.marked.table, self.edge(from.end), to.next, to.at);
         Some(Landing {
             inner: to.at,
             outer: to.next,

@@ -1,4 +1,4 @@
-use Rattle.std.proofs.Common.{refl, arith}
+use Rattle.std.proofs.Common.{refl}
 use Rattle.rings.specs.Tested.{marked_of}
 use Rattle.rings.specs.Follow.{two_known, two_asked}
 use Rattle.rings.specs.Sides.{between_near}
@@ -13,7 +13,7 @@ pub turn-without-requires : goal.turn-without-requires
 turn-without-requires c =
     let marked = marked_of c.args.self.marked.table.tested c.args.self.marked.tested in
     let ((_, here), _) = c.requires in
-    (omega (arith, marked.each), here.differ.0, near_back marked.closed.paired refl here.differ.0 _ _ (between_near marked.closed.paired refl here))
+    (here.differ.0, near_back marked.closed.paired refl here.differ.0 _ _ (between_near marked.closed.paired refl here))
 
 pub returns : goal.returns
 returns c =

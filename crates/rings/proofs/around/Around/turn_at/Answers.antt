@@ -1,4 +1,4 @@
-use Rattle.std.proofs.Common.{refl, sym, ◌∙◌, arith, ap, not}
+use Rattle.std.proofs.Common.{refl, sym, ◌∙◌, ap, not}
 use Rattle.rings.specs.Tested.{marked_of}
 use Rattle.rings.specs.Follow.{landed}
 use Rattle.rings.specs.Sides.{between_near}
@@ -9,7 +9,7 @@ pub turn-to-requires : goal.turn-to-requires
 turn-to-requires c =
     let marked = marked_of c.args.self.marked.table.tested c.args.self.marked.tested in
     let (_, here) = c.requires in
-    (omega (arith, marked.each), here.differ.0, between_near marked.closed.paired refl here)
+    (here.differ.0, between_near marked.closed.paired refl here)
 
 pub returns-then-not-is_two : goal.returns-then-not-is_two
 returns-then-not-is_two c = sym (not-true c.is_two.result (ap not c.if-not-is_two.true)) ∙ c.is_two.ensures
@@ -17,4 +17,4 @@ returns-then-not-is_two c = sym (not-true c.is_two.result (ap not c.if-not-is_tw
 pub returns : goal.returns
 returns c =
     let marked = marked_of c.args.self.marked.table.tested c.args.self.marked.tested in
-    rw c.onward-way.ensures.1 (landed marked.closed refl c.requires c.turn-to.ensures (sym (not-false c.is_two.result (ap not c.if-not-is_two.false)) ∙ c.is_two.ensures))
+    rw (c.onward-way.ensures.1, c.edge.ensures.0, c.edge.ensures.1) (landed marked.closed refl c.requires c.turn-to.ensures (sym (not-false c.is_two.result (ap not c.if-not-is_two.false)) ∙ c.is_two.ensures))
