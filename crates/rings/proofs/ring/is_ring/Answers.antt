@@ -16,9 +16,6 @@ across-requires c =
     let marked = marked_of c.args.marked.table.tested c.args.marked.tested in
     (start_row marked.closed refl _ _ c.requires.1.counted c.requires.1.last c.if-tally-eq0.false, mod-lt _ (lit< tt))
 
-pub invariant_of-around : goal.invariant_of-around
-invariant_of-around c = record { below = c.requires.0 }
-
 pub follow-requires : goal.follow-requires
 follow-requires c =
     let marked = marked_of c.args.marked.table.tested c.args.marked.tested in

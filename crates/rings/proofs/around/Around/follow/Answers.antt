@@ -3,9 +3,6 @@ use Rattle.rings.specs.Tested.{marked_of}
 use Rattle.rings.specs.Follow.{not_landed, ring_edge, ring_few, ring_more, ring_ends, turn_fails}
 use Rattle.rings.proofs.around.Around.follow.Goals as goal
 
-pub turn_at-requires : goal.turn_at-requires
-turn_at-requires c = ring_edge (marked_of c.args.self.marked.table.tested c.args.self.marked.tested).closed refl c.loop-met.invariant c.loop-met-test.true
-
 pub returns-in_default : goal.returns-in_default
 returns-in_default c =
     turn_fails (marked_of c.args.self.marked.table.tested c.args.self.marked.tested).closed refl (ring_edge (marked_of c.args.self.marked.table.tested c.args.self.marked.tested).closed refl c.loop-met.invariant c.loop-met-test.true) (not_landed _ _ _ _ _ _ _ c.in_default.not-Some c.turn_at.ensures)

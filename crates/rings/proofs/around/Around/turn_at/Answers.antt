@@ -2,7 +2,7 @@ use Rattle.std.proofs.Common.{refl, sym, ◌∙◌, ap, not}
 use Rattle.rings.specs.Tested.{marked_of}
 use Rattle.rings.specs.Follow.{landed}
 use Rattle.rings.specs.Sides.{between_near}
-use Rattle.std.proofs.lemmas.Bool.{not-true, not-false}
+use Rattle.std.proofs.lemmas.Bool.{not-false}
 use Rattle.rings.proofs.around.Around.turn_at.Goals as goal
 
 pub turn-to-requires : goal.turn-to-requires
@@ -10,9 +10,6 @@ turn-to-requires c =
     let marked = marked_of c.args.self.marked.table.tested c.args.self.marked.tested in
     let (_, here) = c.requires in
     (here.differ.0, between_near marked.closed.paired refl here)
-
-pub returns-then-not-is_two : goal.returns-then-not-is_two
-returns-then-not-is_two c = sym (not-true c.is_two.result (ap not c.if-not-is_two.true)) ∙ c.is_two.ensures
 
 pub returns : goal.returns
 returns c =
