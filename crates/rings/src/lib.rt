@@ -1,6 +1,7 @@
 // Rings: whether the far edges of a skin vertex form one ring.
 #![tactic(auto)]
 
+mod around;
 pub mod marked;
 mod ring;
 mod tallies;

@@ -20,4 +20,4 @@ pub follow-requires : goal.follow-requires
 follow-requires c =
     let marked = marked_of c.args.marked.table.tested c.args.marked.tested in
     let some = c.if-tally-eq0.false in
-    (c.requires.0, rw (c.first_end.ensures, c.face.ensures, c.across.ensures) (start_edge marked.closed refl _ _ c.requires.1.counted c.requires.1.last some), c.requires.1.counted)
+    (rw (c.first_end.ensures, c.face.ensures, c.across.ensures) (start_edge marked.closed refl _ _ c.requires.1.counted c.requires.1.last some), c.requires.1.counted)
