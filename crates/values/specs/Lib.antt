@@ -1,7 +1,5 @@
--- What the code of `values` means:
---     Search    a place that was found, as `rules` has it
---     Places    the same of an option
+-- What a search of std means, as `rules` has it:
+--     Places    a place that was found, as an option of `rules`
 --     Searched  that a search over a range gives the lowest
-pub mod Search
 pub mod Places
 pub mod Searched
