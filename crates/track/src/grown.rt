@@ -25,6 +25,15 @@ use table::checked::Table;
 use table::row_count;
 use tallies::count_rows;
 
+// The sections of a job behind its header.
+#[derive(Clone, Copy)]
+pub(crate) struct Sections<'a> {
+    pub(crate) rows: &'a [u8],
+    pub(crate) marks: &'a [u8],
+    pub(crate) proposals: &'a [u8],
+    pub(crate) points: &'a [u8],
+}
+
 // The answers, and at the front of the final marks the marks after them, with the work area for these.
 fn answer_copied(
     rows: &[u8],
@@ -86,23 +95,26 @@ fn list_front(
 
 pub(crate) fn grow(
     h: Header,
-    rows: &[u8],
-    marks: &[u8],
-    proposals: &[u8],
-    points: &[u8],
+    sections: Sections,
     answers: &mut [u8],
     final_marks: &mut [u8],
     triangles: &mut [u32],
     work: &mut [u32],
 ) -> Grown
-    requires { Ready h rows.now marks.now proposals.now points.now (lent answers.old final_marks.old triangles.old work.old) × OnGrid h points.now }
+    requires { Ready h sections.rows.now sections.marks.now sections.proposals.now sections.points.now (lent answers.old final_marks.old triangles.old work.old)
+        × OnGrid h sections.points.now }
     ensures { result_of (outcome_of (Ok result)) (lent answers.new final_marks.new triangles.new work.new)
-        ≡ accepted (job_in h rows.now marks.now proposals.now points.now)
+        ≡ accepted (job_in h sections.entry.rows.now sections.entry.marks.now sections.entry.proposals.now sections.entry.points.now)
         (lent answers.old final_marks.old triangles.old work.old) }
 {
-    let ids = h.ids;
-    count_rows(rows, marks, ids, work);
-    let taken = answer_copied(rows, ids, marks, proposals, answers, final_marks, work);
+    let Sections {
+        rows,
+        marks,
+        proposals,
+        points,
+    } = sections;
+    count_rows(rows, marks, h.ids, work);
+    let taken = answer_copied(rows, h.ids, marks, proposals, answers, final_marks, work);
     let triangles = list_front(h, rows, points, final_marks, triangles, work);
     Grown { taken, triangles }
 }

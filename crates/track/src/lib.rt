@@ -14,7 +14,7 @@ ghost use Rattle.points.specs.Placed.{verdict_of};
 ghost use Rattle.track.specs.Outcomes.{lent, told, outcome_of, result_of};
 ghost use Rattle.track.specs.Stages.{job_in, later_tests, from_table, from_marks, Ready, Laid};
 
-use grown::grow;
+use grown::{Sections, grow};
 use job::{Header, read, room_short};
 use marks::check_marks;
 use points::{Misplaced, check_points};
@@ -44,47 +44,35 @@ fn look_at_marks_and_points(h: Header, marked: Marked, points: &[u8]) -> Result<
     Ok(())
 }
 
-// From the starting marks on, with the neighbour list at the front of the work words.
-fn run_closed<'a>(
+// From the starting marks on, with the neighbour list at the front of the work words. The four lent buffers stay parameters of their own: each
+// stage lends other parts of them on.
+fn run_closed(
     h: Header,
-    rows: &'a [u8],
-    marks: &'a [u8],
-    proposals: &[u8],
-    points: &[u8],
+    sections: Sections,
     answers: &mut [u8],
     final_marks: &mut [u8],
     triangles: &mut [u32],
     work: &mut [u32],
 ) -> Result<Grown, Refusal>
-    requires { Ready h rows.now marks.now proposals.now points.now (lent answers.old final_marks.old triangles.old work.old) }
+    requires { Ready h sections.rows.now sections.marks.now sections.proposals.now sections.points.now (lent answers.old final_marks.old triangles.old work.old) }
     ensures { result_of (outcome_of result) (lent answers.new final_marks.new triangles.new work.new)
-        ≡ from_marks h (job_in h rows.now marks.now proposals.now points.now)
+        ≡ from_marks h (job_in h sections.entry.rows.now sections.entry.marks.now sections.entry.proposals.now sections.entry.points.now)
         (lent answers.old final_marks.old triangles.old work.old) }
 {
     let table = Table {
-        rows,
+        rows: sections.rows,
         neighbours: work,
     };
     let marked = Marked {
         table,
-        marks,
+        marks: sections.marks,
         ids: h.ids,
     };
-    if let Err(refusal) = look_at_marks_and_points(h, marked, points) {
+    if let Err(refusal) = look_at_marks_and_points(h, marked, sections.points) {
         clear(work);
         return Err(refusal);
     }
-    Ok(grow(
-        h,
-        rows,
-        marks,
-        proposals,
-        points,
-        answers,
-        final_marks,
-        triangles,
-        work,
-    ))
+    Ok(grow(h, sections, answers, final_marks, triangles, work))
 }
 
 // From the table on, with as many work words as the job needs.
@@ -107,20 +95,13 @@ fn run_laid(
     let points_at = h.points_at();
     let rows = &job[rows_at..marks_at];
     check(rows, h.ids, work)?;
-    let marks = &job[marks_at..proposals_at];
-    let proposals = &job[proposals_at..points_at];
-    let points = &job[points_at..];
-    run_closed(
-        h,
+    let sections = Sections {
         rows,
-        marks,
-        proposals,
-        points,
-        answers,
-        final_marks,
-        triangles,
-        work,
-    )
+        marks: &job[marks_at..proposals_at],
+        proposals: &job[proposals_at..points_at],
+        points: &job[points_at..],
+    };
+    run_closed(h, sections, answers, final_marks, triangles, work)
 }
 
 // Runs a job. Every slice of bytes has an answer.

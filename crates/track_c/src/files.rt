@@ -46,8 +46,9 @@ pub extern "C" fn track_stl_run(
         × (file.new
         ≡ (write_skin track job.now (lent answers.old final_marks.old triangles.old work.old) file.old).file) }
 {
+    let written = write_skin(job, answers, final_marks, triangles, work, file);
     tell_run(
-        write_skin(job, answers, final_marks, triangles, work, file),
+        written.map_err(|unwritten| unwritten.code_and_place()),
         outcome,
     );
 }

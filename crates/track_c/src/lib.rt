@@ -27,5 +27,6 @@ pub extern "C" fn track_run(
         × (lent answers.new final_marks.new triangles.new work.new
         ≡ (run track job.now (lent answers.old final_marks.old triangles.old work.old)).left) }
 {
-    tell_run(run(job, answers, final_marks, triangles, work), outcome);
+    let ran = run(job, answers, final_marks, triangles, work);
+    tell_run(ran.map_err(|refusal| refusal.code_and_place()), outcome);
 }

@@ -1,11 +1,10 @@
 // What is told of each call, in words of 32 bits.
 ghost use Rattle.std.specs.Prelude.{◌≡◌, [], ◌∷◌, ◌<◌};
 ghost use Rattle.std.proofs.lemmas.List.Edits.{sets};
-ghost use Rattle.track_c.specs.Told.{RunFits, run_words, WriteFits, write_words, read_words};
+ghost use Rattle.track_c.specs.Told.{outcome_in, RunFits, run_words, WriteFits, write_words, read_words};
 
-use stl::reader::Reading;
-use stl::writer::Writing;
-use track::Outcome;
+use stl::{reader, writer};
+use track::refusal::Grown;
 
 // A number by value: one that is cast where it is read would ask that it fits.
 fn narrow(x: usize) -> u32
@@ -15,41 +14,40 @@ fn narrow(x: usize) -> u32
     x as u32
 }
 
-// Code, place, taken and triangles.
-pub(crate) fn tell_run(r: Outcome, outcome: &mut [u32; 4])
-    requires { RunFits r }
-    ensures { outcome.new ≡ sets outcome.old 0 (run_words r) }
+// Code, place, taken and triangles: of a refusal code and place are given, and both counts are 0.
+pub(crate) fn tell_run(answer: Result<Grown, (usize, usize)>, outcome: &mut [u32; 4])
+    requires { RunFits (outcome_in answer) }
+    ensures { outcome.new ≡ sets outcome.old 0 (run_words (outcome_in answer)) }
 {
-    let code = narrow(r.code);
-    let place = narrow(r.place);
-    let taken = narrow(r.taken);
-    let triangles = narrow(r.triangles);
-    *outcome = [code, place, taken, triangles];
+    match answer {
+        Ok(grown) => *outcome = [0, 0, narrow(grown.taken), narrow(grown.triangles)],
+        Err((code, place)) => *outcome = [narrow(code), narrow(place), 0, 0],
+    }
 }
 
 // Code and place.
-pub(crate) fn tell_write(r: Writing, outcome: &mut [u32; 2])
-    requires { WriteFits r }
-    ensures { outcome.new ≡ sets outcome.old 0 (write_words r) }
+pub(crate) fn tell_write(answer: Result<(), writer::Refusal>, outcome: &mut [u32; 2])
+    requires { WriteFits answer }
+    ensures { outcome.new ≡ sets outcome.old 0 (write_words answer) }
 {
-    match r {
-        Writing::Done => *outcome = [0, 0],
-        Writing::Facets => *outcome = [1, 0],
-        Writing::Number(k) => *outcome = [2, narrow(k)],
-        Writing::Room => *outcome = [3, 0],
+    match answer {
+        Ok(()) => *outcome = [0, 0],
+        Err(writer::Refusal::Facets) => *outcome = [1, 0],
+        Err(writer::Refusal::Number(k)) => *outcome = [2, narrow(k)],
+        Err(writer::Refusal::Room) => *outcome = [3, 0],
     }
 }
 
 // Code, place, facets, and the bits of the number off the grid.
-pub(crate) fn tell_read(r: Reading, outcome: &mut [u32; 4])
-    ensures { outcome.new ≡ sets outcome.old 0 (read_words r) }
+pub(crate) fn tell_read(answer: Result<u32, reader::Refusal>, outcome: &mut [u32; 4])
+    ensures { outcome.new ≡ sets outcome.old 0 (read_words answer) }
 {
-    match r {
-        Reading::Facets(facets) => *outcome = [0, 0, facets, 0],
-        Reading::Length => *outcome = [1, 0, 0, 0],
-        Reading::Header => *outcome = [2, 0, 0, 0],
-        Reading::Room => *outcome = [3, 0, 0, 0],
-        Reading::NotZero(facet) => *outcome = [4, facet, 0, 0],
-        Reading::Off(_, bits, facet) => *outcome = [5, facet, 0, bits],
+    match answer {
+        Ok(facets) => *outcome = [0, 0, facets, 0],
+        Err(reader::Refusal::Length) => *outcome = [1, 0, 0, 0],
+        Err(reader::Refusal::Header) => *outcome = [2, 0, 0, 0],
+        Err(reader::Refusal::Room) => *outcome = [3, 0, 0, 0],
+        Err(reader::Refusal::NotZero(facet)) => *outcome = [4, facet, 0, 0],
+        Err(reader::Refusal::Off(off)) => *outcome = [5, off.facet, 0, off.bits],
     }
 }

@@ -1,34 +1,28 @@
-use Rattle.std.proofs.Common.{◌≡◌, sym, ap, ◌∙◌, List, ℕ, rules}
-use Rattle.std.proofs.lemmas.List.Edits.{sets}
+use Rattle.std.proofs.Common.{rules}
 use Rattle.stl.specs.Reading.{verdict_of, facets_in, off_in}
-use Rattle.stl.specs.declared.reader.Reading.{Reading}
-use Rattle.track_c.specs.Told.{read_words, bits_back, words_put}
+use Rattle.track_c.specs.Told.{bits_back, words_put, err_told}
 use Rattle.track_c.proofs.told.tell_read.Goals as goal
 
--- the words of a case are those of the answer that is this case
-told : (outcome : List ℕ) {after : List ℕ} {r a : Reading} → r ≡ a → after ≡ sets outcome 0 (read_words a) → after ≡ sets outcome 0 (read_words r)
-told outcome e put = put ∙ ap (λ (r : Reading). sets outcome 0 (read_words r)) (sym e)
-
-pub returns-in-Facets : goal.returns-in-Facets
+pub returns-in-Ok : goal.returns-in-Ok
 unfolding verdict_of facets_in off_in bits_back
-returns-in-Facets c = told c.args.outcome.now c.in-Facets.is (words_put _ _ (search rules))
+returns-in-Ok c = rw c.in-Ok.is (words_put _ _ (search rules))
 
-pub returns-in-Length : goal.returns-in-Length
+pub returns-in-Err-Length : goal.returns-in-Err-Length
 unfolding verdict_of facets_in off_in bits_back
-returns-in-Length c = told c.args.outcome.now c.in-Length.is (words_put _ _ (search rules))
+returns-in-Err-Length c = rw (err_told c.in-Err-Length.is (rw c.in-Err-Length.is at c.in-Err-Length.field-0-is)) (words_put _ _ (search rules))
 
-pub returns-in-Header : goal.returns-in-Header
+pub returns-in-Err-Header : goal.returns-in-Err-Header
 unfolding verdict_of facets_in off_in bits_back
-returns-in-Header c = told c.args.outcome.now c.in-Header.is (words_put _ _ (search rules))
+returns-in-Err-Header c = rw (err_told c.in-Err-Header.is (rw c.in-Err-Header.is at c.in-Err-Header.field-0-is)) (words_put _ _ (search rules))
 
-pub returns-in-Room : goal.returns-in-Room
+pub returns-in-Err-Room : goal.returns-in-Err-Room
 unfolding verdict_of facets_in off_in bits_back
-returns-in-Room c = told c.args.outcome.now c.in-Room.is (words_put _ _ (search rules))
+returns-in-Err-Room c = rw (err_told c.in-Err-Room.is (rw c.in-Err-Room.is at c.in-Err-Room.field-0-is)) (words_put _ _ (search rules))
 
-pub returns-in-NotZero : goal.returns-in-NotZero
+pub returns-in-Err-NotZero : goal.returns-in-Err-NotZero
 unfolding verdict_of facets_in off_in bits_back
-returns-in-NotZero c = told c.args.outcome.now c.in-NotZero.is (words_put _ _ (search rules))
+returns-in-Err-NotZero c = rw (err_told c.in-Err-NotZero.is (rw c.in-Err-NotZero.is at c.in-Err-NotZero.field-0-is)) (words_put _ _ (search rules))
 
-pub returns-in-Off : goal.returns-in-Off
+pub returns-in-Err-Off : goal.returns-in-Err-Off
 unfolding verdict_of facets_in off_in bits_back
-returns-in-Off c = told c.args.outcome.now c.in-Off.is (words_put _ _ (search rules))
+returns-in-Err-Off c = rw (err_told c.in-Err-Off.is (rw c.in-Err-Off.is at c.in-Err-Off.field-0-is)) (words_put _ _ (search rules))
