@@ -36,7 +36,7 @@ fn put_skin(job: &[u8], file: &mut [u8]) -> Said
 }
 
 // Of a longer input the first 65,536 bytes are read. No job is as long, so it is refused, and `skin_enough` says that its front gets the
-// same refusal.
+// same refusal. Buffers, messages and what is said differ from those of `print_facets`: one function over all of them would be no plainer.
 pub(crate) fn print_skin(rt: &HostRuntime) {
     let mut job = [0u8; 65536];
     let count = match read_input(&mut rt.stdin(), &mut job) {
