@@ -1,6 +1,5 @@
 -- What the code of `table` means beyond `rules`, and the laws by which it is proved:
 --     Rows       the table of a row section, and what codes 5 and 6 have shown of it
---     Dictionary  the order of two rows, by the order of their ids
 --     Faces      triangles, edges and vertices of a row as three corners each
 --     Chains     places threaded into chains by a key, and what a walk along a chain counts
 --     Places     the faces of all rows one after the other, threaded by their ids
@@ -11,7 +10,6 @@
 --     Holders    the rows that hold an edge or a vertex, joined or not by a flood
 --     Closed     codes 5 to 9, first match decides
 pub mod Rows
-pub mod Dictionary
 pub mod Faces
 pub mod Chains
 pub mod Places

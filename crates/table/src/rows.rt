@@ -1,8 +1,8 @@
 // Rows one by one, and in their order. Codes 5 and 6.
-ghost use Rattle.std.specs.Prelude.{◌≡◌, [], ◌∷◌, ◌&&◌, ◌||◌, ◌<◌, eqb, ltb};
+ghost use Rattle.std.specs.Prelude.{◌≡◌, ◌&&◌, ◌||◌, ◌<◌, eqb, ltb};
 ghost use Rattle.rules.specs.Below.{lowest};
 ghost use Rattle.rules.specs.Table.{rising, ids_below, before};
-ghost use Rattle.table.specs.Rows.{id_in, table_in, rows_in};
+ghost use Rattle.table.specs.Rows.{table_in, rows_in};
 ghost use Rattle.values.specs.Places.{place_of};
 ghost use Rattle.rules.specs.Job.{bad_row, not_after};
 
@@ -35,25 +35,40 @@ pub(crate) fn bad_row(rows: &[u8], ids: usize) -> Option<usize>
     (0..row_count(rows)).find(|&row| !is_row(rows, ids, row))
 }
 
-// The four ids of a row.
-fn ids_of(rows: &[u8], row: usize) -> [usize; 4]
-    requires { row < rows_in rows.now }
-    ensures { result ≡ id_in rows.now row 0 ∷ id_in rows.now row 1 ∷ id_in rows.now row 2 ∷ id_in rows.now row 3 ∷ [] }
+// Four ids stand before four others in the dictionary. `<` of two arrays of ids was tried: with it the largest jobs took over the millisecond that
+// they take under in this form.
+fn four_before(
+    a: usize,
+    b: usize,
+    c: usize,
+    d: usize,
+    e: usize,
+    f: usize,
+    g: usize,
+    h: usize,
+) -> bool
+    ensures { result ≡ (ltb a e || (eqb a e && ltb b f) || (eqb a e && eqb b f && ltb c g) || (eqb a e && eqb b f && eqb c g && ltb d h)) }
 {
-    [
-        id_at(rows, row, 0),
-        id_at(rows, row, 1),
-        id_at(rows, row, 2),
-        id_at(rows, row, 3),
-    ]
+    (a < e)
+        | ((a == e) & (b < f))
+        | ((a == e) & (b == f) & (c < g))
+        | ((a == e) & (b == f) & (c == g) & (d < h))
 }
 
-// A row stands before another in the dictionary.
 fn row_before(rows: &[u8], s: usize, r: usize) -> bool
     requires { (s < rows_in rows.now) × (r < rows_in rows.now) }
     ensures { result ≡ before (table_in rows.now) s r }
 {
-    ids_of(rows, s) < ids_of(rows, r)
+    four_before(
+        id_at(rows, s, 0),
+        id_at(rows, s, 1),
+        id_at(rows, s, 2),
+        id_at(rows, s, 3),
+        id_at(rows, r, 0),
+        id_at(rows, r, 1),
+        id_at(rows, r, 2),
+        id_at(rows, r, 3),
+    )
 }
 
 // The first row that is not after the one before it.
