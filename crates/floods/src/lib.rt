@@ -34,7 +34,7 @@ impl Flood {
         self.tail = 1;
     }
 
-    // Stamps y and puts it into the queue, if it is fresh.
+    // Stamps y and puts it into the queue, if it is fresh. Where it is not, the caller goes on the same way: so there is one branch.
     pub fn visit(&mut self, fresh: bool, y: usize, k: u16)
         requires { (y < 2048) × (fresh ≡ true → self.old.tail < 2048) }
         ensures { (self.new.stamp ≡ cond fresh (set self.old.stamp y k) self.old.stamp)

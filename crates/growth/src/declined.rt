@@ -36,7 +36,7 @@ impl Declined {
     }
 }
 
-// Document 02's answer.
+// Document 02's answer: the C interface lends a byte for each, and this is the one place that tells it.
 pub(crate) fn answer_of(given: Result<bool, Declined>) -> u8
     ensures { result ≡ answer_of given }
 {

@@ -177,7 +177,7 @@ pub fn read(job: &[u8]) -> Result<Header, Refused>
     Ok(h)
 }
 
-// Room for fewer answers, final marks, triangle words or work words than the job needs: code 4.
+// Room for fewer answers, final marks, triangle words or work words than the job needs: code 4. The four are the rooms that C lends.
 pub fn room_short(
     h: Header,
     answers: usize,

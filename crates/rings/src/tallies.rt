@@ -18,6 +18,7 @@ pub(crate) struct Tally {
     pub(crate) place: u16,
 }
 
+// One of three ids: a face is no list to be asked.
 fn in_face(f: Face, id: usize) -> bool
     ensures { result ≡ in_face f id }
 {

@@ -15,7 +15,8 @@ pub fn is_inside(marks: &[u8], row: usize) -> bool
     marks[row] == 1
 }
 
-// The triangle of a row that leaves out a corner is between the two sides: on a closed table, on the skin.
+// The triangle of a row that leaves out a corner is between the two sides: on a closed table, on the skin. It promises this of any list of
+// neighbours, and so takes no checked table.
 pub fn is_between(neighbours: &[u32], marks: &[u8], row: usize, corner: usize) -> bool
     requires { (4 * row + corner < length neighbours.now) × (row < length marks.now) × (get_or neighbours.now (4 * row + corner) 0 < length marks.now) }
     ensures { result ≡ between neighbours.now marks.now row corner }

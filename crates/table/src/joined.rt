@@ -37,6 +37,7 @@ fn face_joined(
     reached == found.count
 }
 
+// The flood goes on from place to place, so that no search by a test of the place alone serves.
 fn broken_by(table: Table, kind: FaceKind, chains: &Chains, flood: &mut Flood) -> Option<usize>
     requires { Joint (first_of kind) (each_of kind) × Chained (table_in table.rows.now) (first_of kind) (each_of kind) chains.now.head chains.now.next
         × Scratch (rows_in table.rows.now) 0 flood.old.stamp }

@@ -47,7 +47,7 @@ pub fn id_at(rows: &[u8], row: usize, corner: usize) -> usize
     RowView::of(rows).id(row, corner)
 }
 
-// How many rows a section has. Only this function and `id_at` know how wide a row is.
+// How many rows a section has. Only this function and the view know how wide a row is.
 pub fn row_count(rows: &[u8]) -> usize
     ensures { result ≡ rows_in rows.now }
 {
@@ -65,7 +65,8 @@ pub fn holds(rows: &[u8], row: usize, id: usize) -> bool
         | (id_at(rows, row, 3) == id)
 }
 
-// The row across the triangle of a row that leaves out a corner, by the neighbour list. Every neighbour is read here.
+// The row across the triangle of a row that leaves out a corner, by the neighbour list. Every neighbour is read here. It promises this of
+// any list, and so takes no checked table.
 pub fn across_at(neighbours: &[u32], row: usize, corner: usize) -> usize
     requires { 4 * row + corner < length neighbours.now }
     ensures { result ≡ get_or neighbours.now (4 * row + corner) 0 }

@@ -8,7 +8,7 @@ ghost use Rattle.rules.specs.Job.{bad_row, not_after};
 
 use crate::{id_at, row_count};
 
-// Four ids rise and are below `ids`.
+// Four ids rise and are below `ids`. std's `is_sorted` lets equal ids pass, and asks of no bound.
 fn four_rise(a: usize, b: usize, c: usize, d: usize, ids: usize) -> bool
     ensures { result ≡ ((ltb a b && ltb b c && ltb c d) && (ltb a ids && ltb b ids && ltb c ids && ltb d ids)) }
 {

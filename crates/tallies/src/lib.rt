@@ -49,6 +49,7 @@ fn tallies_at(rows: &[u8]) -> usize
     4 * row_count(rows)
 }
 
+// Whether a row counts is a question with no value beside it; of all rows the answer is yes.
 fn count_if(counts: bool, rows: &[u8], first: usize, row: usize, work: &mut [u32])
     requires { RowSteppable (table_in rows.now) first true row work.old × (row < rows_in rows.now) }
     ensures { work.new ≡ cond counts (step_row (table_in rows.now) first true row 4 work.old) work.old }

@@ -34,7 +34,8 @@ pub(crate) struct Sections<'a> {
     pub(crate) points: &'a [u8],
 }
 
-// The answers, and at the front of the final marks the marks after them, with the work area for these.
+// The answers, and at the front of the final marks the marks after them, with the work area for these. Marks and work area change on the way
+// and are lent apart, so that no value holds what is known of both.
 fn answer_copied(
     rows: &[u8],
     ids: usize,

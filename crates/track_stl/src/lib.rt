@@ -29,7 +29,7 @@ use track::refusal::Grown;
 use track::run;
 use unwritten::Unwritten;
 
-// One of the two orders of a table with points.
+// One of the two orders of a table with points: where the header's yes or no becomes an order.
 fn order_in(placed: Placed<'_>, outward: bool) -> Order<'_>
     ensures { (rows_of result ≡ placed.entry.table.rows.now)
         × (triangle_as (table_in placed.entry.table.rows.now) true (points_of result) ≡ triangle_as (table_in placed.entry.table.rows.now) outward (some (point_in placed.entry.points.now))) }

@@ -11,6 +11,7 @@ use streams::output::{print_whole, tell};
 // So many bytes at the front of a buffer: a text to print, or the line of a refusal.
 pub(crate) type Said = Result<usize, usize>;
 
+// By its numbers: the line of a refusal prints them.
 pub(crate) fn refused(code: usize, place: usize, out: &mut [u8]) -> Said
     requires { 50 ≤ length out.old }
     ensures { Says (line word_refused (code ∷ place ∷ [])) true out.old (size_in result) (refuses result) out.new }
