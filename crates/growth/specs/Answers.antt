@@ -12,11 +12,9 @@ use Rattle.rules.specs.Job.{proposal_in, written}
 use Rattle.rules.specs.Words.{word}
 use Rattle.rules.specs.Laws.Lists.{tabulate_more, tabulate_length}
 use Rattle.rules.specs.Laws.Count.{bit_small}
-use Rattle.rules.specs.Laws.Proposals.{answer_is, final_length, final_more, answers_length, taken_more, taken_few}
+use Rattle.rules.specs.Laws.Proposals.{answer_is, final_more, answers_length, taken_more, taken_few}
 use Rattle.rules.proofs.Laws.Proposals.{answers_more}
-use Rattle.rules.specs.Laws.Written.{written_none, written_length, written_snoc}
-use Rattle.table.specs.Rows.{table_in}
-use Rattle.tallies.specs.Area.{Area}
+use Rattle.rules.specs.Laws.Written.{written_none, written_snoc}
 
 abbrev pub proposal : ℕ → ℕ → Proposal
 proposal row kind = record { row = row; kind = kind }
@@ -122,14 +120,7 @@ module _ (t : Table) (ids : ℕ) (bytes marks₀ answers₀ : List ℕ) where
     taken_small e =
         omega (arith, e, bit_small (eqb (answer t marks (proposal_in bytes k)) 0), a.counted, taken_few (answers_to t marks₀ (proposals_to bytes k)), answers_so_far k)
 
-    pub marks_length : length marks ≡ length marks₀
-    marks_length = ap length a.standing ∙ final_length t marks₀ (proposals_to bytes k)
-
     module _ (room : length bytes / 8 ≤ length answers₀) where
-      pub answers_room : length answers ≡ length answers₀
-      answers_room =
-          ap length a.given ∙ written_length (answers_to t marks₀ (proposals_to bytes k)) answers₀ (rw (answers_so_far k) (omega (arith, a.upto)))
-
       pub answering_turn : k < length bytes / 8 → {r : ℕ} {answers' marks' work' : List ℕ}
           → (r ≡ bit (eqb (answer t marks (proposal_in bytes k)) 0)) × (answers' ≡ set answers k (answer t marks (proposal_in bytes k)))
           × (marks' ≡ marks_after t marks (proposal_in bytes k)) × (work' ≡ work_area t ids marks') → Answered (k + 1) (count + r) answers' marks' work'
@@ -158,13 +149,3 @@ module _ (t : Table) (ids : ℕ) (bytes marks₀ answers₀ : List ℕ) where
         × (work ≡ work_area t ids marks)
     unfolding proposals_in
     answering_ends l = rw (le_antisymm l a.upto) (a.counted, a.given, a.standing, a.area)
-
--- so growing rests on the same after each proposal
-pub still_area : {rows proposals work₀ marks₀ answers₀ : List ℕ} {ids : ℕ} → Area rows work₀ marks₀ ids
-    → {k count : ℕ} {answers marks work : List ℕ} → Answered (table_in rows) ids proposals marks₀ answers₀ k count answers marks work → Area rows work marks ids
-still_area {rows} {proposals} {marks₀ = marks₀} {answers₀} {ids} s a = record {
-  few = s.few;
-  closed = s.closed;
-  each = marks_length (table_in rows) ids proposals marks₀ answers₀ a ∙ s.each;
-  area = a.area;
-}

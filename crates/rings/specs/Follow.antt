@@ -3,13 +3,11 @@ use Rattle.std.specs.Prelude.{◌≡◌, refl, Option, Some, None, ◌⊎◌, �
 use Rattle.std.proofs.Common.{sym, ◌∙◌, inl, inr, ⊎_elim, zero-le, mod-lt, arith, lit<, eqb-true, eq-eqb}
 use Rattle.std.proofs.Math.Path.{subst}
 use Rattle.std.proofs.Math.Bool.{xor}
-use Rattle.std.proofs.Math.Option.{none}
 use Rattle.std.proofs.lemmas.Bool.{eqb-false, not-false}
-use Rattle.rules.specs.Below.{count, lowest}
+use Rattle.rules.specs.Below.{count}
 use Rattle.rules.specs.Table.{Table, across}
 use Rattle.rules.specs.Skin.{on_skin, far_edge, skin_vertex, one_ring, ringless}
 use Rattle.rules.specs.Laws.Truth.{true_or_false, not_both, is_false, is_true, same_test, and_reads, or_reads, not_reads, eqb_reads, and_first, and_second, same_or_not}
-use Rattle.rules.specs.Laws.Below.{lowest_none}
 use Rattle.rules.specs.Laws.Count.{ExactlyTwo, sum_zero, count_same, count_some, count_two, two_count, count_other, count_zero}
 use Rattle.rules.specs.Laws.Highest.{highest, highest_passes}
 use Rattle.rules.specs.Laws.Places.{row_below}
@@ -312,8 +310,3 @@ pub ringless_is : (t : Table) (inside : ℕ → Bool) (n v : ℕ) → v < n → 
 unfolding ringless
 ringless_is t inside n v l =
     ⊎_elim (λ on. rw on refl) (λ off. rw ((one_ring_reads t inside n v).1 (off_skin_ring t inside n v l off)) (rw off refl)) (true_or_false (skin_vertex t inside n v))
-
--- a search that has found none
-pub rings_below : (t : Table) (inside : ℕ → Bool) (n low : ℕ) → low ≤ n → lowest low (ringless t inside n) ≡ none → RingsBelow t inside n low
-rings_below t inside n low few e w l =
-    not-false (one_ring t inside n w) (sym (ringless_is t inside n w (omega (arith, l, few))) ∙ lowest_none low (ringless t inside n) e w l)

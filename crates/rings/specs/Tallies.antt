@@ -37,9 +37,6 @@ module _ {bytes marks : List ℕ} {v p total place : ℕ} (w : Tallied bytes mar
   pub tally_low : place ≤ p
   tally_low = rw w.last (highest_small p (shown_at (table_in bytes) (inside_in marks) v))
 
-  pub tally_ends : {q : ℕ} → p ≡ q → Tallied bytes marks v q total place
-  tally_ends e = rw (← e) w
-
   pub tally_more : {on : Bool} → on ≡ shown_at (table_in bytes) (inside_in marks) v p → {total' place' : ℕ} → total' ≡ total + cond on 1 0 → place' ≡ cond on p place
       → Tallied bytes marks v (p + 1) total' place'
   unfolding bit

@@ -1,5 +1,5 @@
 -- The rows about an edge: each has two others across its triangles that hold the edge, so a walk from row to row about it ends.
-use Rattle.std.specs.Prelude.{◌≡◌, ◌⊎◌, ◌↔◌, ◌≢◌, Bool, not, ◌&&◌, eqb}
+use Rattle.std.specs.Prelude.{◌≡◌, ◌↔◌, ◌≢◌, Bool, not, ◌&&◌, eqb}
 use Rattle.std.proofs.Math.Path.{refl}
 use Rattle.std.proofs.Common.{sym, ap, ◌∙◌, subst, inl, inr, ⊎_elim}
 use Rattle.std.proofs.Math.Logic.{Ne-symm}
@@ -7,7 +7,7 @@ use Rattle.std.proofs.Math.Bool.{true, false, cond}
 use Rattle.std.specs.Bool.{beq}
 use Prim.Native.Nat.{ℕ, ◌+◌, ◌≤◌, ◌<◌}
 use Rattle.rules.specs.Table.{Table, across}
-use Rattle.rules.specs.Laws.Truth.{not_both, and_reads, not_reads, eqb_reads, same_or_not}
+use Rattle.rules.specs.Laws.Truth.{and_reads, not_reads, eqb_reads, same_or_not}
 use Rattle.rules.specs.Laws.Count.{ExactlyTwo, TheOther, the_other}
 use Rattle.rules.specs.Laws.Highest.{highest, highest_more, highest_passes}
 use Rattle.rules.specs.Laws.Shape.{two_others}
@@ -68,9 +68,6 @@ module _ {y first : ℕ} {p q i j : Bool} (ep : p ≡ i) (eq : q ≡ j) where
   pub test_goes : (not (eqb y first) && beq p q) ≡ true → (y ≢ first) × (i ≡ j)
   test_goes = test.0
 
-  pub test_stops : (not (eqb y first) && beq p q) ≡ false → (y ≡ first) ⊎ (i ≢ j)
-  test_stops f = ⊎_elim inl (λ ne. inr (λ (e : i ≡ j). not_both (test.1 (ne, e)) f)) (same_or_not y first)
-
 -- ---- the search for the corner that leads on
 
 module _ {t : Table} {a b from x : ℕ} where
@@ -90,9 +87,6 @@ module _ {t : Table} {a b from x : ℕ} where
       chosen : (of : ℕ → ℕ) (on : Bool) (c d : ℕ) → cond on (of c) (of d) ≡ of (cond on c d)
       chosen of true c d = refl
       chosen of false c d = refl
-
-  pub sought_found : {k row id : ℕ} → Sought t a b from x k row id → k ≡ 4 → (row ≡ across t x (way_on t a b from x)) × (id ≡ t.id x (way_on t a b from x))
-  sought_found s e = rw (← e) (s.row_is, s.id_is)
 
 module _ {t : Table} {id_count : ℕ} (paired : Paired t id_count) (four : t.corners ≡ 4) {a b : ℕ} (edge : a ≢ b) where
   pub near_at : (x y : ℕ) → Near t a b x y → At t a b y

@@ -28,11 +28,6 @@ use Rattle.points.specs.Sides.{triangle_ids}
 abbrev pub in_order : Bool → Table → ℕ → ℕ → List ℕ
 in_order turned t r c = cond turned (exchanged (triangle t r c)) (triangle t r c)
 
--- places of a triangle are 0, 1 and 2
-pub one_of_three : (b : Bool) (m n : ℕ) {a : ℕ} → a ≡ cond b m n → m < 3 → n < 3 → a < 3
-one_of_three true m n e lm ln = rw e lm
-one_of_three false m n e lm ln = rw e ln
-
 -- its three ids, put from a place on
 pub triangle_put : (bytes : List ℕ) (r c : ℕ) → c < 4 → (turned : Bool) (triangles : List ℕ) (at : ℕ) {a b i j k : ℕ} → a ≡ cond turned 2 1 → b ≡ cond turned 1 2
     → i ≡ id_in bytes r (corner_of c 0) → j ≡ id_in bytes r (corner_of c a) → k ≡ id_in bytes r (corner_of c b)

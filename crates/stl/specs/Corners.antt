@@ -87,11 +87,6 @@ corners_put l p a b c =
     sets_more (corner_bytes b) (corner_bytes c) (sets l p (corner_bytes a)) (p + 12) (p + 24) (omega (arith, corner_length b))
     ∙ sets_more (corner_bytes a) (corner_bytes b ++ corner_bytes c) l p (p + 12) (omega (arith, corner_length a))
 
-pub normal_put : (l : List ℕ) (p : ℕ) → sets (sets (sets l p (bytes_of 4 0)) (p + 4) (bytes_of 4 0)) (p + 8) (bytes_of 4 0) ≡ sets l p (replicate 12 0)
-normal_put l p =
-    sets_more (bytes_of 4 0) (bytes_of 4 0) (sets l p (bytes_of 4 0)) (p + 4) (p + 8) (omega arith)
-    ∙ sets_more (bytes_of 4 0) (bytes_of 4 0 ++ bytes_of 4 0) l p (p + 4) refl
-
 pub facet_put : (l : List ℕ) (p : ℕ) (a b c : Corner)
     → sets (sets (sets l p (replicate 12 0)) (p + 12) (corners_bytes a b c)) (p + 48) (replicate 2 0) ≡ sets l p (facet_of a b c)
 unfolding facet_of

@@ -64,9 +64,6 @@ module _ (key : ℕ → ℕ) (n : ℕ) where
   link_threaded place k head next head' next' l m same small full room t e f =
       rw (e, f, same) (more_threaded (place - 1) head next (omega arith) (rw same at small) full (omega arith) (subst (λ (i : ℕ). Threaded i head next) (omega arith) t))
 
-  pub all_threaded : {place : ℕ} {head next : List ℕ} → Threaded place head next → place ≤ 0 → Threaded 0 head next
-  all_threaded {head = head} {next = next} t l = subst (λ (i : ℕ). Threaded i head next) (omega arith) t
-
   -- ---- a walk along the chain of a place
 
   -- A test that only places with the key v pass. A walk stands at q; what it has counted is what passes below q.

@@ -6,7 +6,7 @@ use Rattle.std.proofs.Math.Option as rules
 use Rattle.rules.specs.Below.{lowest}
 use Rattle.rules.specs.Table.{Table, neighbour_list, triangles_shared, edges_joined, vertices_joined}
 use Rattle.rules.specs.First.{Test, Verdict, first_match}
-use Rattle.rules.specs.Job.{most_rows, bad_row, not_after, table_tests, written}
+use Rattle.rules.specs.Job.{bad_row, not_after, table_tests, written}
 use Rattle.rules.specs.Laws.Written.{written_length, written_at}
 use Rattle.rules.specs.Reading.Closed.{list_length, list_at}
 use Rattle.rules.proofs.Reading.Codes.{none_paired}
@@ -112,6 +112,3 @@ module _ (bytes : List ℕ) (id_count : ℕ) (row : Option ℕ) (looked : place_
       pub order_fine : order ≡ None → first_match 5 (table_tests (table_in bytes) id_count) ≡ first_match 7 (shared_tests (table_in bytes))
       unfolding table_tests shared_tests joined_tests
       order_fine e = match_later 5 _ _ (sym looked ∙ ap place_of whole) ∙ match_later 6 _ _ (sym looked' ∙ ap place_of e)
-
-      pub rows_ordered : rows_in bytes ≤ most_rows → order ≡ None → OrderedRows bytes id_count
-      rows_ordered few e = record { few = few; rows = sym looked ∙ ap place_of whole; order = sym looked' ∙ ap place_of e }

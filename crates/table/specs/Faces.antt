@@ -1,6 +1,6 @@
 -- The faces of a row: four triangles by left-out corner, six edges and four vertices, each as three corners. An edge and a vertex repeat
 -- their last corner. So the three rules are asked of faces of one form.
-use Rattle.std.specs.Prelude.{◌≡◌, refl, ◌⊎◌, false, not, ◌&&◌, ◌||◌, cond, eqb, get_or}
+use Rattle.std.specs.Prelude.{◌≡◌, refl, ◌⊎◌, false, not, ◌&&◌, ◌||◌, eqb, get_or}
 use Rattle.std.proofs.Common.{sym, ap, ◌∙◌, inl, inr, arith, lit<, lit≤, eqb-true, eq-eqb, ltb-true, lt-ltb, ltb-false}
 use Rattle.std.proofs.Math.Logic.{⊎_elim}
 use Rattle.std.proofs.Math.Bool.{Bool, true, and_assoc}
@@ -138,12 +138,6 @@ pub kind_small : {base m : ℕ} → Kind base m → (0 < m) × (m ≤ 6) × (bas
 kind_small (inl (b, n)) = rw (b, n) (lit< tt, lit≤ tt, lit≤ tt)
 kind_small (inr (inl (b, n))) = rw (b, n) (lit< tt, lit≤ tt, lit≤ tt)
 kind_small (inr (inr (b, n))) = rw (b, n) (lit< tt, lit≤ tt, lit≤ tt)
-
--- a division by 4 or by 6 is one by m
-pub four_or_six : {base m : ℕ} → Kind base m → (f : ℕ → ℕ) → cond (eqb m 4) (f 4) (f 6) ≡ f m
-four_or_six (inl (b, n)) f = rw n
-four_or_six (inr (inl (b, n))) f = rw n
-four_or_six (inr (inr (b, n))) f = rw n
 
 corners_pass : all 14 (λ face. all 3 (λ k. ltb (corner_of face k) 4)) ≡ true
 unfolding all corner_of face_corners triangle_table edge_table vertex_table tabulate gather map flatten

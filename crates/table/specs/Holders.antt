@@ -131,19 +131,6 @@ pub record Spreading (bytes : List ℕ) (a b start k i x corner : ℕ) (stamp qu
   pub waits : i < tail
   pub at : x ≡ get_or queue i 0
 
-pub spread_begins : {bytes : List ℕ} {a b start k i x : ℕ} {stamp queue : List ℕ} {tail : ℕ} → FloodingRows bytes a b start k stamp queue (4 * i) tail → start < rows_in bytes → i < tail → x ≡ get_or queue i 0
-    → Spreading bytes a b start k i x 0 stamp queue tail
-spread_begins {bytes} {a} {b} {start} {k} {i} {x} {stamp} {queue} {tail} f ls l e = record {
-  flood = subst (λ (turn : ℕ). FloodingRows bytes a b start k stamp queue turn tail) (omega arith) f;
-  from = ls;
-  waits = l;
-  at = e;
-}
-
-pub spread_ends : {bytes : List ℕ} {a b start k i x : ℕ} {stamp queue : List ℕ} {tail : ℕ} → Spreading bytes a b start k i x 4 stamp queue tail
-    → FloodingRows bytes a b start k stamp queue (4 * (i + 1)) tail
-spread_ends {bytes} {a} {b} {start} {k} {i} {x} {stamp} {queue} {tail} s = subst (λ (turn : ℕ). FloodingRows bytes a b start k stamp queue turn tail) (omega arith) s.flood
-
 module _ {bytes work : List ℕ} {ids : ℕ} (ground : Ground bytes work ids) (a b start k i x corner : ℕ) (lc : corner < 4) {stamp queue : List ℕ} {tail : ℕ}
     (s : Spreading bytes a b start k i x corner stamp queue tail) where
   pub reached_below : x < rows_in bytes

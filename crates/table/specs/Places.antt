@@ -1,7 +1,7 @@
 -- Places: the faces of one kind, m to a row. Place p is the face p % m of row p / m.
-use Rattle.std.specs.Prelude.{◌≡◌, refl, Bool, true, not, ◌≢◌, List, ℕ, ◌+◌, ◌*◌, ◌/◌, ◌%◌, ◌≤◌, ◌<◌}
+use Rattle.std.specs.Prelude.{◌≡◌, refl, Bool, true, not, List, ℕ, ◌+◌, ◌*◌, ◌/◌, ◌%◌, ◌≤◌, ◌<◌}
 use Rattle.std.proofs.Math.Path.{sym, ap}
-use Rattle.std.proofs.Common.{◌∙◌, inl, inr, zero-add, mod-lt, lt_trans, mul-le-mul, arith}
+use Rattle.std.proofs.Common.{◌∙◌, mod-lt, lt_trans, mul-le-mul, arith}
 use Rattle.std.proofs.Math.Option.{some, none}
 use Rattle.std.proofs.Math.Nat.{div-add-mod}
 use Rattle.std.proofs.lemmas.Bool.{not-true, not-false}
@@ -39,42 +39,6 @@ Chained t base m head next = Threaded (λ p. key_of (face_at t base m p)) (m * t
 
 pub places_fit : {base m n : ℕ} → Kind base m → n ≤ most_rows → m * n ≤ 12288
 places_fit kind l = mul-le-mul (kind_small kind).1 l
-
--- ---- the face at a place, kind by kind
-
-module _ {base m : ℕ} (kind : Kind base m) where
-  pub four_else : m ≢ 6 → m ≡ 4
-  four_else = by kind
-    where
-      by : Kind base m → m ≢ 6 → m ≡ 4
-      by (inl (_, n)) _ = n
-      by (inr (inl (_, n))) off = absurd (off n)
-      by (inr (inr (_, n))) _ = n
-
-  module _ (t : Table) (p : ℕ) where
-    pub edge_at : m ≡ 6 → face_of t (p / 6) (4 + p % 6) ≡ face_at t base m p
-    edge_at six = by kind
-      where
-        by : Kind base m → face_of t (p / 6) (4 + p % 6) ≡ face_at t base m p
-        by (inl (b, n)) = absurd (omega arith)
-        by (inr (inl (b, n))) = rw (b, n)
-        by (inr (inr (b, n))) = absurd (omega arith)
-
-    pub vertex_at : base ≡ 10 → face_of t (p / 4) (10 + p % 4) ≡ face_at t base m p
-    vertex_at ten = by kind
-      where
-        by : Kind base m → face_of t (p / 4) (10 + p % 4) ≡ face_at t base m p
-        by (inl (b, n)) = absurd (omega arith)
-        by (inr (inl (b, n))) = absurd (omega arith)
-        by (inr (inr (b, n))) = rw (b, n)
-
-    pub triangle_at : m ≢ 6 → base ≢ 10 → face_of t (p / 4) (p % 4) ≡ face_at t base m p
-    triangle_at no_edge no_vertex = by kind
-      where
-        by : Kind base m → face_of t (p / 4) (p % 4) ≡ face_at t base m p
-        by (inl (b, n)) = rw (b, n, zero-add (p % 4))
-        by (inr (inl (b, n))) = absurd (no_edge n)
-        by (inr (inr (b, n))) = absurd (no_vertex b)
 
 -- ---- rows and places
 

@@ -1,7 +1,7 @@
 -- A walk along the chain of a place: what it has found of the places with the same ids.
 use Rattle.std.specs.Prelude.{◌≡◌, Bool, true, false, ◌&&◌, cond, List, ℕ, ◌+◌, ◌*◌, ◌≤◌, ◌<◌, eqb, get_or}
 use Rattle.std.proofs.Math.Path.{sym}
-use Rattle.std.proofs.Common.{ap, subst, le_antisymm, arith}
+use Rattle.std.proofs.Common.{ap, subst, arith}
 use Rattle.std.proofs.Math.Bool.{not}
 use Rattle.rules.specs.Below.{any, bit, count}
 use Rattle.rules.specs.Table.{Table}
@@ -57,10 +57,6 @@ module _ (t : Table) (base m p : ℕ) where
     stands_after : (q : ℕ) → q < places → Standing q → Standing (get_or next q 0)
     stands_after q l s = record { upto = (after q l s).upto; hits = (after q l s).hits }
 
-    -- the walk goes on
-    pub goes_on : (q : ℕ) → q < places → Standing q → q < get_or next q 0
-    goes_on q l s = omega (arith, (after q l s).from)
-
     pub walk_begins : Walked (get_or head (key p) 0) 0 0
     walk_begins = record {
       standing = stands_first;
@@ -97,11 +93,6 @@ module _ (t : Table) (base m p : ℕ) where
   pub hit_ends : {q : ℕ} → q < p → {f g : Face} {hit : Bool} → f ≡ face_at t base m p → g ≡ face_at t base m q → hit ≡ same_ids f g → hit ≡ true → false ≡ not (any p (like t base m p))
   unfolding like
   hit_ends {q} l ef eg eh on = sym (ap not (any_here p (like t base m p) q l (rw (← ef, ← eg, ← eh) on)))
-
-  pub walk_ends : (q n other : ℕ) → places ≤ q → Walked q n other → (n ≡ count places (like t base m p)) × (other ≡ highest places (another t base m p))
-  walk_ends q n other l w =
-      let e : q ≡ places = le_antisymm w.standing.upto l in
-      (rw e at w.counted, rw e at w.last)
 
   pub walked_small : (q n other : ℕ) → Walked q n other → n ≤ q
   walked_small q n other w = omega (arith, w.counted, count_not q (like t base m p))

@@ -1,7 +1,7 @@
 -- The tallies of a row's ids, each one up or one down.
 use Rattle.std.specs.Prelude.{◌≡◌, ◌≢◌, Bool, true, false, length, get_or}
 use Rattle.std.proofs.Math.Path.{refl, sym, ap}
-use Rattle.std.proofs.Common.{◌∙◌, le_antisymm, add-zero, arith, get_or-append-add}
+use Rattle.std.proofs.Common.{◌∙◌, add-zero, arith, get_or-append-add}
 use Rattle.std.proofs.Math.Logic.{⊎_elim}
 use Rattle.std.proofs.Math.Bool.{cond, or-false}
 use mathlib.Core.List.{List, ◌++◌}
@@ -77,16 +77,7 @@ module _ (t : Table) (first : ℕ) (up : Bool) (r : ℕ) (words : List ℕ) wher
 
 -- a turn of the loop over a row's corners
 module _ {t : Table} {first : ℕ} {up : Bool} {r : ℕ} {words₀ : List ℕ} (s : RowSteppable t first up r words₀) (c : ℕ) {words : List ℕ} (so_far : words ≡ step_row t first up r c words₀) where
-  pub same_long : length words ≡ length words₀
-  same_long = ap length so_far ∙ step_length t first up r words₀ c
-
-  pub row_done : c ≤ t.corners → t.corners ≤ c → words ≡ step_row t first up r t.corners words₀
-  row_done l m = so_far ∙ ap (λ (k : ℕ). step_row t first up r k words₀) (le_antisymm l m)
-
   module _ (l : c < t.corners) {id : ℕ} (is : id ≡ t.id r c) where
-    pub turn_there : first + id < length words₀
-    turn_there = rw is (s.each c l).there
-
     pub turn_steppable : Steppable up words (first + id)
     turn_steppable = rw (so_far, is) (still_steppable t first up r words₀ s c l)
 

@@ -30,8 +30,7 @@ use Rattle.table.specs.Rows.{table_in, rows_in}
 use Rattle.table.specs.Ground.{Ground}
 use Rattle.rings.specs.Far.{Marked}
 use Rattle.points.specs.Grid.{Grid, none_off}
-use Rattle.tallies.specs.Counted.{Listed}
-use Rattle.tallies.specs.Area.{Area, area_ground}
+use Rattle.tallies.specs.Area.{area_ground}
 use Rattle.growth.specs.Answers.{proposals_in}
 use Rattle.track.specs.Outcomes.{lent, result_of, refusal}
 
@@ -183,12 +182,6 @@ abbrev pub front_skin : Header → List ℕ → List ℕ → List ℕ → List (
 front_skin h rows points final =
     skin_as (table_in rows) (inside_in (take (rows_in rows) final)) (triangle_as (table_in rows) (asks_outward track (meant h)) (points_of track (meant h) points))
 
-pub front_listed : (h : Header) (rows points final triangles₀ : List ℕ) {n count : ℕ} {ids : ℕ → ℕ → List ℕ} {triangles : List ℕ} → n ≡ rows_in rows
-    → ids ≡ triangle_as (table_in rows) (asks_outward track (meant h)) (points_of track (meant h) points)
-    → (count ≡ length (skin_as (table_in rows) (inside_in (take n final)) ids)) × (triangles ≡ written (flatten (skin_as (table_in rows) (inside_in (take n final)) ids)) triangles₀)
-    → (count ≡ length (front_skin h rows points final)) × (triangles ≡ written (flatten (front_skin h rows points final)) triangles₀)
-front_listed h rows points final triangles₀ en eo e = rw (en, eo) at e
-
 -- ---- the work that is needed, lent by itself
 
 -- what is left in the front, and the rest as it was
@@ -257,21 +250,8 @@ area_whole : {h : Header} {rows marks proposals points : List ℕ} {buffers : Le
 area_whole {h = h} {rows = rows} {buffers = buffers} g final =
     written_whole (work_area (table_in rows) h.ids final) buffers.work (omega (arith, work_length (table_in rows) h.ids final, g.counted, g.work_room_lem))
 
--- what counting the rows rests on
-pub uncounted : {h : Header} {rows marks proposals points : List ℕ} {buffers : Lent} → Ready h rows marks proposals points buffers → Listed rows buffers.work marks h.ids
-uncounted g = record {
-  few = g.ground.few;
-  paired = g.ground.paired;
-  each = g.each;
-  list = g.listed;
-  long = omega (arith, g.counted, g.work_room_lem);
-}
-
--- what growing rests on, with the rows counted, and the list when it is done
+-- the neighbour list when growing is done
 module _ {h : Header} {rows marks proposals points : List ℕ} {buffers : Lent} (g : Ready h rows marks proposals points buffers) where
-  pub counted_area : {work : List ℕ} → work ≡ work_area (table_in rows) h.ids marks → Area rows work marks h.ids
-  counted_area e = record { few = g.ground.few; closed = g.closed; each = g.each; area = e }
-
   pub grown_ground : {work : List ℕ} → work ≡ work_area (table_in rows) h.ids (final_marks (table_in rows) marks (proposals_in proposals)) → Ground rows work h.ids
   grown_ground e = area_ground (record { few = g.ground.few; closed = g.closed; each = final_length (table_in rows) marks (proposals_in proposals) ∙ g.each; area = e })
 

@@ -1,4 +1,4 @@
-use Rattle.std.proofs.Common.{ap, ◌∙◌, true, rules}
+use Rattle.std.proofs.Common.{ap, ◌∙◌, true}
 use Rattle.rules.specs.Job.{written}
 use Rattle.table.specs.Tested.{ground_of}
 use Rattle.track_stl.specs.Skins.{listed_as, listed_again, may_put, file_put}
@@ -11,9 +11,6 @@ put_triangles-requires c =
     let (many, below, few) = may_put placed.table.rows.now c.args.marks.now placed.points.now placed.table.neighbours.now placed.ids (ground_of placed.table.tested placed.tested.0)
     c.args.triangles.now c.requires.1 c.list_skin-count.ensures.0 c.list_skin-count.ensures.1 in
     (many, below, few, rw c.list_skin-count.ensures.0 c.requires.3)
-
-pub list_skin-requires : goal.list_skin-requires
-list_skin-requires c = rw c.order_in.ensures.0 (c.requires.0, search rules)
 
 pub returns : goal.returns
 returns c =
