@@ -30,6 +30,7 @@ pub(crate) fn tell_write(answer: Result<(), writer::Refusal>, outcome: &mut [u32
     requires { WriteFits answer }
     ensures { outcome.new ≡ sets outcome.old 0 (write_words answer) }
 {
+    // The codes stand here alone, where a must-fail edit gets one of them wrong: with a method of `Refusal` they would stand twice.
     match answer {
         Ok(()) => *outcome = [0, 0],
         Err(writer::Refusal::Facets) => *outcome = [1, 0],
@@ -42,6 +43,7 @@ pub(crate) fn tell_write(answer: Result<(), writer::Refusal>, outcome: &mut [u32
 pub(crate) fn tell_read(answer: Result<u32, reader::Refusal>, outcome: &mut [u32; 4])
     ensures { outcome.new ≡ sets outcome.old 0 (read_words answer) }
 {
+    // The codes stand here as in `workshop`, whose match stays: with a method of `Refusal` they would stand twice too, and the bits need a match besides.
     match answer {
         Ok(facets) => *outcome = [0, 0, facets, 0],
         Err(reader::Refusal::Length) => *outcome = [1, 0, 0, 0],

@@ -15,6 +15,7 @@ fn list_file(file: &[u8], out: &mut [u8]) -> Said
     ensures { Says (file_said file.now) (file_refused file.now) out.old (size_in result) (refuses result) out.new }
 {
     let mut units = [0i16; 36864];
+    // The codes stand here, and not in a method of `Refusal`: a must-fail edit gets one of them wrong here, and Off needs a case for its bits anyhow.
     match read_file(file, &mut units) {
         Ok(count) => Ok(list_facets(&units[..9 * (count as usize)], out)),
         Err(Refusal::Length) => refused(1, 0, out),
