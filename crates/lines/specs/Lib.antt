@@ -2,6 +2,7 @@
 --     Listing   the text that document 01 has printed of a job
 --     Decimal   laws of decimal numbers
 --     Put       texts put into a buffer, one behind the other
+--     Page      the same of a page, which is a buffer with a place in it
 --     Lines     words, numbers and lines, put in turns
 --     Room      how long the lines are
 --     Listed    what a run gives, and the listing of it
@@ -12,6 +13,7 @@
 pub mod Listing
 pub mod Decimal
 pub mod Put
+pub mod Page
 pub mod Lines
 pub mod Room
 pub mod Listed

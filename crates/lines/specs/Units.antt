@@ -8,6 +8,8 @@ use Rattle.lines.specs.Listing.{decimal}
 use Rattle.lines.specs.Decimal.{few_digits}
 use Rattle.lines.specs.Facets.{whole, parting, unit_text}
 use Rattle.lines.specs.Put.{Put, put_more}
+use Rattle.lines.specs.declared.text.Page.{Page}
+use Rattle.lines.specs.Page.{Puts, TakesFew, puts_more, puts_few}
 
 -- ---- an i16, as it is read back
 
@@ -29,6 +31,17 @@ module _ {u : ℤ} (fits : SFits w16 u) {n : ℕ} (size : n ≡ nat_abs (to_z w1
   pub plain_put : lt_z (to_z w16 (of_z w16 u)) (pos 0) ≡ false → Put (decimal n) d at d' m → Put (whole u) d at d' m
   unfolding whole below_zero
   plain_put e p = rw (← stored_is fits, e, ← size) p
+
+-- the same, on a page
+module _ {u : ℤ} (fits : SFits w16 u) {n : ℕ} (size : (n ≡ nat_abs (to_z w16 (of_z w16 u))) × (n ≤ 32768)) {p q : Page} where
+  pub minus_puts : lt_z (to_z w16 (of_z w16 u)) (pos 0) ≡ true → Puts (45 ∷ []) p q → {r : Page} → Puts (decimal n) q r → Puts (whole u) p r × TakesFew 6 p r
+  minus_puts e minus number =
+      let both = puts_more minus number in
+      (record { same = both.same; put = minus_put fits size.0 e minus.put number.put }, puts_few 6 both (omega (arith, few_of size.1)))
+
+  pub plain_puts : lt_z (to_z w16 (of_z w16 u)) (pos 0) ≡ false → Puts (decimal n) p q → Puts (whole u) p q × TakesFew 6 p q
+  plain_puts e number =
+      (record { same = number.same; put = plain_put fits size.0 e number.put }, puts_few 6 number (omega (arith, few_of size.1)))
 
 -- ---- a number of several
 

@@ -3,29 +3,24 @@ ghost use Rattle.std.specs.Prelude.{◌≡◌, ◌+◌, ◌*◌, ◌≤◌, ◌<
 ghost use Rattle.rules.specs.Job.{most_rows, most_proposals};
 ghost use Rattle.lines.specs.Listing.{answer_line, answer_lines, triangle_line, triangle_lines, done_text};
 ghost use Rattle.lines.specs.Put.{Put};
+ghost use Rattle.lines.specs.Page.{HasRoom, Puts, TakesFew};
 
-use crate::text::{put_each, put_line};
+use crate::text::Page;
 
 // The line of a proposal: its number and its answer.
-fn put_answer(answers: &[u8], k: usize, out: &mut [u8], at: usize) -> usize
-    requires { (k < most_proposals) × (k < length answers.now) × (at + 12 ≤ length out.old) }
-    ensures { Put (answer_line answers.now k) out.old at out.new result × (result ≤ at + 12) }
+fn put_answer(answers: &[u8], k: usize, page: &mut Page<'_>)
+    requires { (k < most_proposals) × (k < length answers.now) × HasRoom page.old 12 }
+    ensures { Puts (answer_line answers.now k) page.old page.new × TakesFew 12 page.old page.new }
 {
     let numbers = [k, answers[k] as usize];
-    put_line(b"p", &numbers, out, at)
+    page.put_line(b"p", &numbers);
 }
 
-fn put_answers(answers: &[u8], count: usize, out: &mut [u8], at: usize) -> usize
-    requires { (count ≤ most_proposals) × (count ≤ length answers.now) × (at + 12 * count ≤ length out.old) }
-    ensures { Put (answer_lines answers.now count) out.old at out.new result × (result ≤ at + 12 * count) }
+fn put_answers(answers: &[u8], count: usize, page: &mut Page<'_>)
+    requires { (count ≤ most_proposals) × (count ≤ length answers.now) × HasRoom page.old (12 * count) }
+    ensures { Puts (answer_lines answers.now count) page.old page.new × TakesFew (12 * count) page.old page.new }
 {
-    put_each(
-        count,
-        12,
-        out,
-        at,
-        |k, out, at| put_answer(answers, k, out, at),
-    )
+    page.put_each(count, 12, |k, page| put_answer(answers, k, page));
 }
 
 fn id_at(triangles: &[u32], place: usize) -> usize
@@ -36,28 +31,22 @@ fn id_at(triangles: &[u32], place: usize) -> usize
 }
 
 // The line of a triangle: its three ids.
-fn put_triangle(triangles: &[u32], k: usize, out: &mut [u8], at: usize) -> usize
-    requires { (3 * k + 3 ≤ length triangles.now) × (at + 35 ≤ length out.old) }
-    ensures { Put (triangle_line triangles.now k) out.old at out.new result × (result ≤ at + 35) }
+fn put_triangle(triangles: &[u32], k: usize, page: &mut Page<'_>)
+    requires { (3 * k + 3 ≤ length triangles.now) × HasRoom page.old 35 }
+    ensures { Puts (triangle_line triangles.now k) page.old page.new × TakesFew 35 page.old page.new }
 {
     let a = id_at(triangles, 3 * k);
     let b = id_at(triangles, 3 * k + 1);
     let c = id_at(triangles, 3 * k + 2);
     let ids = [a, b, c];
-    put_line(b"t", &ids, out, at)
+    page.put_line(b"t", &ids);
 }
 
-fn put_triangles(triangles: &[u32], count: usize, out: &mut [u8], at: usize) -> usize
-    requires { (3 * count ≤ length triangles.now) × (at + 35 * count ≤ length out.old) }
-    ensures { Put (triangle_lines triangles.now count) out.old at out.new result × (result ≤ at + 35 * count) }
+fn put_triangles(triangles: &[u32], count: usize, page: &mut Page<'_>)
+    requires { (3 * count ≤ length triangles.now) × HasRoom page.old (35 * count) }
+    ensures { Puts (triangle_lines triangles.now count) page.old page.new × TakesFew (35 * count) page.old page.new }
 {
-    put_each(
-        count,
-        35,
-        out,
-        at,
-        |k, out, at| put_triangle(triangles, k, out, at),
-    )
+    page.put_each(count, 35, |k, page| put_triangle(triangles, k, page));
 }
 
 pub(crate) fn put_done(
@@ -72,7 +61,9 @@ pub(crate) fn put_done(
     ensures { Put (done_text proposals taken count answers.now triangles.now) out.old 0 out.new result × (result ≤ 163840) }
 {
     let numbers = [proposals, taken, count];
-    let behind_first = put_line(b"done", &numbers, out, 0);
-    let behind_answers = put_answers(answers, proposals, out, behind_first);
-    put_triangles(triangles, count, out, behind_answers)
+    let mut page = Page { out, at: 0 };
+    page.put_line(b"done", &numbers);
+    put_answers(answers, proposals, &mut page);
+    put_triangles(triangles, count, &mut page);
+    page.at
 }

@@ -2,9 +2,9 @@
 ghost use Rattle.std.specs.Prelude.{◌≡◌, ◌+◌, ◌*◌, ◌≤◌, ◌<◌, nat_abs, length};
 ghost use Rattle.rules.specs.Job.{written};
 ghost use Rattle.lines.specs.Facets.{whole, parting, unit_text, facets_text};
-ghost use Rattle.lines.specs.Put.{Put};
+ghost use Rattle.lines.specs.Page.{HasRoom, Puts, TakesFew};
 
-use crate::text::{put_byte, put_each, put_number};
+use crate::text::Page;
 
 // Bytes enough for 4,096 facets: nine numbers each, of six characters at most and one behind.
 pub const FACETS_ROOM: usize = 258048;
@@ -16,16 +16,15 @@ fn size_of(units: i16) -> usize
     units.unsigned_abs() as usize
 }
 
-fn put_whole(units: i16, out: &mut [u8], at: usize) -> usize
-    requires { at + 6 ≤ length out.old }
-    ensures { Put (whole units) out.old at out.new result × (result ≤ at + 6) }
+fn put_whole(units: i16, page: &mut Page<'_>)
+    requires { HasRoom page.old 6 }
+    ensures { Puts (whole units) page.old page.new × TakesFew 6 page.old page.new }
 {
     let size = size_of(units);
     if units < 0 {
-        let behind_minus = put_byte(b'-', out, at);
-        return put_number(size, out, behind_minus);
+        page.put_byte(b'-');
     }
-    put_number(size, out, at)
+    page.put_number(size);
 }
 
 // What stands behind number k: after each ninth the line ends.
@@ -35,12 +34,12 @@ fn parting_behind(k: usize) -> u8
     if k % 9 == 8 { b'\n' } else { b' ' }
 }
 
-fn put_unit(units: &[i16], k: usize, out: &mut [u8], at: usize) -> usize
-    requires { (k < length units.now) × (at + 7 ≤ length out.old) }
-    ensures { Put (unit_text units.now k) out.old at out.new result × (result ≤ at + 7) }
+fn put_unit(units: &[i16], k: usize, page: &mut Page<'_>)
+    requires { (k < length units.now) × HasRoom page.old 7 }
+    ensures { Puts (unit_text units.now k) page.old page.new × TakesFew 7 page.old page.new }
 {
-    let behind_number = put_whole(units[k], out, at);
-    put_byte(parting_behind(k), out, behind_number)
+    put_whole(units[k], page);
+    page.put_byte(parting_behind(k));
 }
 
 // Writes the text of a list of units to the front of a buffer, and tells how long it is. Of whole facets each has its line.
@@ -48,11 +47,7 @@ pub fn list_facets(units: &[i16], out: &mut [u8]) -> usize
     requires { 7 * length units.now ≤ length out.old }
     ensures { (result ≡ length (facets_text units.now)) × (out.new ≡ written (facets_text units.now) out.old) }
 {
-    put_each(
-        units.len(),
-        7,
-        out,
-        0,
-        |k, out, at| put_unit(units, k, out, at),
-    )
+    let mut page = Page { out, at: 0 };
+    page.put_each(units.len(), 7, |k, page| put_unit(units, k, page));
+    page.at
 }

@@ -12,7 +12,7 @@ ghost use Rattle.lines.specs.Listed.{proposals_read};
 
 use done::put_done;
 use job::read;
-use text::put_line;
+use text::Page;
 use track::run;
 
 // Bytes enough for every listing: a first line of 68 at most, 1,024 proposals of 12 and 4,096 triangles of 35.
@@ -23,7 +23,9 @@ pub fn refused_line(numbers: &[usize], out: &mut [u8]) -> usize
     requires { 8 + 21 * length numbers.now ≤ length out.old }
     ensures { (result ≡ length (line word_refused numbers.now)) × (out.new ≡ written (line word_refused numbers.now) out.old) }
 {
-    put_line(b"refused", numbers, out, 0)
+    let mut page = Page { out, at: 0 };
+    page.put_line(b"refused", numbers);
+    page.at
 }
 
 // P of a job that is laid out.

@@ -4,4 +4,4 @@ use Rattle.lines.proofs.done.put_answers.Goals as goal
 
 pub returns : goal.returns
 unfolding answer_lines
-returns c = (c.put_each.ensures.texts (answer_line c.args.answers.now) (λ k n m o o' p. search rules), c.put_each.ensures.few)
+returns c = (c.put_each.ensures.texts (answer_line c.args.answers.now) (λ k p p' put. search rules), c.put_each.ensures.few)

@@ -4,4 +4,4 @@ use Rattle.lines.proofs.done.put_triangles.Goals as goal
 
 pub returns : goal.returns
 unfolding triangle_lines
-returns c = (c.put_each.ensures.texts (triangle_line c.args.triangles.now) (λ k n m o o' p. search rules), c.put_each.ensures.few)
+returns c = (c.put_each.ensures.texts (triangle_line c.args.triangles.now) (λ k p p' put. search rules), c.put_each.ensures.few)

@@ -1,4 +1,4 @@
-use Rattle.lines.proofs.text.+put_number.Given as goal
+use Rattle.lines.proofs.text.Page.+put_number.Given as goal
 
 abbrev pub decreases-put_number : goal.decreases-put_number
 decreases-put_number l = l.n

@@ -1,5 +1,0 @@
-use Rattle.lines.specs.Lines.{word_put}
-use Rattle.lines.proofs.text.put_word.Goals as goal
-
-pub returns : goal.returns
-returns c = word_put _ _ _ c.copy_from_slice.ensures.after c.requires
