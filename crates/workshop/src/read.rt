@@ -2,7 +2,7 @@
 ghost use Rattle.std.specs.Prelude.{◌≤◌, length};
 ghost use Rattle.workshop.specs.Said.{file_said, file_refused, Says, size_in, refuses};
 
-use crate::said::{Said, refused, refused_off, say, tell_script};
+use crate::said::{Said, refused, say, tell_script};
 use lines::facets::{FACETS_ROOM, list_facets};
 use std::rt::HostRuntime;
 use stl::reader::{Refusal, read_file};
@@ -18,11 +18,11 @@ fn list_file(file: &[u8], out: &mut [u8]) -> Said
     // The codes stand here, and not in a method of `Refusal`: a must-fail edit gets one of them wrong here, and Off needs a case for its bits anyhow.
     match read_file(file, &mut units) {
         Ok(count) => Ok(list_facets(&units[..9 * (count as usize)], out)),
-        Err(Refusal::Length) => refused(1, 0, out),
-        Err(Refusal::Header) => refused(2, 0, out),
-        Err(Refusal::Room) => refused(3, 0, out),
-        Err(Refusal::NotZero(facet)) => refused(4, facet as usize, out),
-        Err(Refusal::Off(off)) => refused_off(off.facet as usize, off.bits as usize, out),
+        Err(Refusal::Length) => refused(&[1, 0], out),
+        Err(Refusal::Header) => refused(&[2, 0], out),
+        Err(Refusal::Room) => refused(&[3, 0], out),
+        Err(Refusal::NotZero(facet)) => refused(&[4, facet as usize], out),
+        Err(Refusal::Off(off)) => refused(&[5, off.facet as usize, off.bits as usize], out),
     }
 }
 

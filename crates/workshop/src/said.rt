@@ -1,5 +1,5 @@
 // What is said: a text on standard output, or the line of a refusal to the script beside the program.
-ghost use Rattle.std.specs.Prelude.{true, [], ◌∷◌, ◌≤◌, length};
+ghost use Rattle.std.specs.Prelude.{true, ◌+◌, ◌*◌, ◌≤◌, length};
 ghost use Rattle.lines.specs.Listing.{line, word_refused};
 ghost use Rattle.workshop.specs.Said.{Says, size_in, refuses};
 
@@ -11,22 +11,12 @@ use streams::output::{print_whole, tell};
 // So many bytes at the front of a buffer: a text to print, or the line of a refusal.
 pub(crate) type Said = Result<usize, usize>;
 
-// By its numbers: the line of a refusal prints them.
-pub(crate) fn refused(code: usize, place: usize, out: &mut [u8]) -> Said
-    requires { 50 ≤ length out.old }
-    ensures { Says (line word_refused (code ∷ place ∷ [])) true out.old (size_in result) (refuses result) out.new }
+// Code, place, and the bits of a number off the grid.
+pub(crate) fn refused(numbers: &[usize], out: &mut [u8]) -> Said
+    requires { 8 + 21 * length numbers.now ≤ length out.old }
+    ensures { Says (line word_refused numbers.now) true out.old (size_in result) (refuses result) out.new }
 {
-    let numbers = [code, place];
-    Err(refused_line(&numbers, out))
-}
-
-// A number off the grid is told by its bits.
-pub(crate) fn refused_off(facet: usize, bits: usize, out: &mut [u8]) -> Said
-    requires { 71 ≤ length out.old }
-    ensures { Says (line word_refused (5 ∷ facet ∷ bits ∷ [])) true out.old (size_in result) (refuses result) out.new }
-{
-    let numbers = [5, facet, bits];
-    Err(refused_line(&numbers, out))
+    Err(refused_line(numbers, out))
 }
 
 // Started with a second argument, the program tells a line on descriptor 3.

@@ -30,7 +30,7 @@ fn put_skin(job: &[u8], file: &mut [u8]) -> Said
         Ok(grown) => Ok(84 + 50 * grown.triangles),
         Err(unwritten) => {
             let (code, place) = unwritten.code_and_place();
-            refused(code, place, file)
+            refused(&[code, place], file)
         }
     }
 }

@@ -32,4 +32,4 @@ returns-in-Err-NotZero c = refusal_said _ (rw c.in-Err-NotZero.field-0-is at c.i
 
 pub returns-in-Err-Off : goal.returns-in-Err-Off
 unfolding verdict_of off_in bits_told refusal
-returns-in-Err-Off c = refusal_said _ (rw c.in-Err-Off.field-0-is at c.in-Err-Off.is) c.read_file.ensures refl refl (rw c.in-Err-Off.field-0-is at c.refused_off.ensures)
+returns-in-Err-Off c = refusal_said _ (rw c.in-Err-Off.field-0-is at c.in-Err-Off.is) c.read_file.ensures refl refl (rw c.in-Err-Off.field-0-is at c.refused-in-Err-Off.ensures)
