@@ -14,8 +14,8 @@ fn main(rt: HostRuntime) {
     let mut job = [0u8; 65536];
     let count = match read_input(&mut rt.stdin(), &mut job) {
         Ok(count) => count,
-        Err(error) => {
-            fail(&rt, b"listing: the job could not be read", error);
+        Err(failed) => {
+            fail(&rt, b"listing: the job could not be read", failed.error);
             return;
         }
     };

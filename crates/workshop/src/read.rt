@@ -32,8 +32,8 @@ pub(crate) fn print_facets(rt: &HostRuntime) {
     let mut file = [0u8; 204885];
     let count = match read_input(&mut rt.stdin(), &mut file) {
         Ok(count) => count,
-        Err(error) => {
-            fail(rt, b"stl: the file could not be read", error);
+        Err(failed) => {
+            fail(rt, b"stl: the file could not be read", failed.error);
             return;
         }
     };
