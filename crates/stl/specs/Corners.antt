@@ -1,11 +1,11 @@
 -- Corners: three f32, in bytes and in a list of units.
-use Rattle.std.specs.Prelude.{◌≡◌, refl, true, not, List, ◌++◌, ℕ, ◌+◌, T, ℤ, pos, nat_abs, length, get_or, replicate}
+use Rattle.std.specs.Prelude.{◌≡◌, refl, true, not, List, ◌++◌, ℕ, ◌+◌, T, ℤ, pos, nat_abs, length, get_or, replicate, Float, from_bits}
 use Rattle.std.proofs.Common.{◌∙◌, add-zero, add_assoc, arith}
 use Rattle.std.proofs.lemmas.List.Edits.{sets}
 use Rattle.std.specs.Float.{binary32}
 use Rattle.std.specs.Float.Ieee.{to_bits, is_nan}
 use Rattle.rules.specs.Below.{gather}
-use Rattle.rules.specs.Words.{bytes_of}
+use Rattle.rules.specs.Words.{word, bytes_of}
 use Rattle.rules.specs.Points.{below_zero, in_range}
 use Rattle.rules.specs.Stl.{metres, bits_of, facet_bytes}
 use Rattle.rules.specs.Laws.Words.{bytes_length}
@@ -33,6 +33,13 @@ corners_bytes a b c = corner_bytes a ++ (corner_bytes b ++ corner_bytes c)
 -- a facet with these corners
 unfoldable pub facet_of : Corner → Corner → Corner → List ℕ
 facet_of a b c = replicate 12 0 ++ (corners_bytes a b c ++ replicate 2 0)
+
+-- the corner at a place
+unfoldable pub float_at : List ℕ → ℕ → Float
+float_at bytes place = from_bits binary32 (word 4 bytes place)
+
+unfoldable pub corner_at : List ℕ → ℕ → Corner
+corner_at bytes place = record { x = float_at bytes place; y = float_at bytes (place + 4); z = float_at bytes (place + 8) }
 
 -- ---- in a list of units
 

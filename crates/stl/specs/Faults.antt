@@ -1,5 +1,5 @@
 -- What is wrong with a facet.
-use Rattle.std.specs.Prelude.{◌≡◌, ◌≤◌, ◌<◌, Bool, ◌&&◌, cond, List, ℕ, ◌+◌, eqb, get_or, ℤ, Result, Ok, Err}
+use Rattle.std.specs.Prelude.{◌≡◌, ◌≤◌, ◌<◌, Bool, ◌&&◌, cond, List, ℕ, ◌+◌, ◌*◌, eqb, get_or, ℤ, Result, Ok, Err}
 use Rattle.std.proofs.Math.Path.{refl, subst}
 use Rattle.std.proofs.Common.{sym, ap, ◌∙◌, arith, eqb-true, eq-eqb}
 use Rattle.std.proofs.Math.Bool.{true, false}
@@ -62,7 +62,7 @@ blank_parts bytes f =
 -- ---- the nine numbers of a facet, one after the other
 
 -- what is answered to what a number says
-unfoldable pub off_told : Result ℤ OffGrid → Result (Unit {0}) Refusal
+off_told : Result ℤ OffGrid → Result (Unit {0}) Refusal
 off_told (Ok u) = Ok tt
 off_told (Err o) = Err (Off o)
 
@@ -79,19 +79,59 @@ read_off bits facet = go (bits_off bits) refl
     go false e = refl
 
 module _ (bytes : List ℕ) (f k : ℕ) (before : lowest k (off bytes f) ≡ none) where
-  pub number_goes : {u : ℤ} → Ok u ≡ read (bits_at bytes f k) f → lowest (k + 1) (off bytes f) ≡ none
+  number_goes : {u : ℤ} → Ok u ≡ read (bits_at bytes f k) f → lowest (k + 1) (off bytes f) ≡ none
   unfolding is_off
   number_goes e = searched_more k (off bytes f) before (sym (read_off (bits_at bytes f k) f) ∙ ap is_off (sym e))
 
-  pub number_stops : {o : OffGrid} → Err o ≡ read (bits_at bytes f k) f → k < 9 → Err (Off o) ≡ number_fault bytes f (lowest 9 (off bytes f))
+  number_stops : {o : OffGrid} → Err o ≡ read (bits_at bytes f k) f → k < 9 → Err (Off o) ≡ number_fault bytes f (lowest 9 (off bytes f))
   unfolding is_off off_told number_fault read
   number_stops e l =
       let stops : off bytes f k ≡ true = sym (read_off (bits_at bytes f k) f) ∙ ap is_off (sym e) in
       ap off_told e ∙ rw (stops, search_stops 9 k (off bytes f) before l stops) refl
 
-  pub numbers_end : 9 ≤ k → Ok tt ≡ number_fault bytes f (lowest 9 (off bytes f))
+  numbers_end : 9 ≤ k → Ok tt ≡ number_fault bytes f (lowest 9 (off bytes f))
   unfolding number_fault
   numbers_end l = rw (search_ends 9 k (off bytes f) before l) refl
+
+-- ---- the three corners of a facet, one after the other
+
+-- what the first says, if it is off the grid, or else what the rest says
+unfoldable pub then_rest : Result ℤ OffGrid → Result (Unit {0}) OffGrid → Result (Unit {0}) OffGrid
+then_rest (Ok u) rest = rest
+then_rest (Err o) rest = Err o
+
+-- the first number off the grid of corner c
+unfoldable pub corner_fault : List ℕ → ℕ → ℕ → Result (Unit {0}) OffGrid
+corner_fault bytes f c = then_rest (read (bits_at bytes f (3 * c)) f) (then_rest (read (bits_at bytes f (3 * c + 1)) f) (then_rest (read (bits_at bytes f (3 * c + 2)) f) (Ok tt)))
+
+module _ (bytes : List ℕ) (f c : ℕ) (before : lowest (3 * c) (off bytes f) ≡ none) where
+  -- what an answer to corner c says of the facet
+  abbrev Says : Result (Unit {0}) OffGrid → Type 0
+  Says (Ok _) = lowest (3 * (c + 1)) (off bytes f) ≡ none
+  Says (Err o) = c < 3 → Err (Off o) ≡ number_fault bytes f (lowest 9 (off bytes f))
+
+  then_says : (k next : ℕ) (rest : Result (Unit {0}) OffGrid) → k + 1 ≡ next → (c < 3 → k < 9) → lowest k (off bytes f) ≡ none → (lowest next (off bytes f) ≡ none → Says rest) → Says (then_rest (read (bits_at bytes f k) f) rest)
+  unfolding then_rest
+  then_says k next rest one within known goes = go (read (bits_at bytes f k) f) refl
+    where
+      go : (r : Result ℤ OffGrid) → r ≡ read (bits_at bytes f k) f → Says (then_rest r rest)
+      go (Ok u) e = goes (subst (λ (n : ℕ). lowest n (off bytes f) ≡ none) one (number_goes bytes f k known e))
+      go (Err o) e = λ l. number_stops bytes f k known e (within l)
+
+  corner_says : Says (corner_fault bytes f c)
+  unfolding corner_fault
+  corner_says =
+      then_says (3 * c) (3 * c + 1) _ refl (λ l. omega (arith, l)) before
+      (λ first. then_says (3 * c + 1) (3 * c + 2) _ (omega arith) (λ l. omega (arith, l)) first (λ second. then_says (3 * c + 2) (3 * (c + 1)) (Ok tt) (omega arith) (λ l. omega (arith, l)) second (λ third. third)))
+
+  pub corner_goes : Ok tt ≡ corner_fault bytes f c → lowest (3 * (c + 1)) (off bytes f) ≡ none
+  corner_goes e = subst Says (sym e) corner_says
+
+  pub corner_stops : {o : OffGrid} → Err o ≡ corner_fault bytes f c → c < 3 → Err (Off o) ≡ number_fault bytes f (lowest 9 (off bytes f))
+  corner_stops e = subst Says (sym e) corner_says
+
+  pub corners_end : 3 ≤ c → Ok tt ≡ number_fault bytes f (lowest 9 (off bytes f))
+  corners_end l = numbers_end bytes f (3 * c) before (omega (arith, l))
 
 -- ---- what a fault of a facet says
 

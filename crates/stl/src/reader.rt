@@ -3,10 +3,11 @@ ghost use Rattle.std.specs.Prelude.{◌≡◌, true, false, ◌+◌, ◌*◌, �
 ghost use Rattle.rules.specs.Job.{written};
 ghost use Rattle.rules.specs.Stl.{most_facets, file_length, facet_at, count_in, ill_sized, blank, bits_at, first_fault, unit_at, units_in, read_file};
 ghost use Rattle.grid.specs.Numbers.{read};
-ghost use Rattle.stl.specs.Faults.{facet_fault};
+ghost use Rattle.stl.specs.Faults.{corner_fault, facet_fault};
 ghost use Rattle.stl.specs.declared.reader.Refusal.TheVariants.{Off};
 ghost use Rattle.stl.specs.Reading.{told, searched, reading};
 
+use crate::corner::corner_at;
 use crate::header::is_headed;
 use grid::{OffGrid, float_of, number_of};
 use words::word_at;
@@ -44,13 +45,17 @@ fn is_blank(file: &[u8], facet: usize) -> bool
         & (file[place + 49] == 0)
 }
 
-// The units of number k of a facet.
-fn number_at(file: &[u8], facet: u32, k: usize) -> Result<i16, OffGrid>
-    requires { (facet_at facet + 50 ≤ length file.now) × (facet < most_facets) × (k < 9) }
-    ensures { result ≡ read (bits_at file.now facet k) facet }
+// The three numbers of a corner of a facet.
+fn check_corner(file: &[u8], facet: u32, corner: usize) -> Result<(), OffGrid>
+    requires { (facet_at facet + 50 ≤ length file.now) × (facet < most_facets) × (corner < 3) }
+    ensures { result ≡ corner_fault file.now facet corner }
 {
-    let bits = word_at(file, 96 + 50 * (facet as usize) + 4 * k);
-    number_of(float_of(bits), bits, facet)
+    let place = 96 + 50 * (facet as usize) + 12 * corner;
+    let c = corner_at(file, place);
+    number_of(c.x, word_at(file, place), facet)?;
+    number_of(c.y, word_at(file, place + 4), facet)?;
+    number_of(c.z, word_at(file, place + 8), facet)?;
+    Ok(())
 }
 
 fn check_facet(file: &[u8], facet: u32) -> Result<(), Refusal>
@@ -60,8 +65,8 @@ fn check_facet(file: &[u8], facet: u32) -> Result<(), Refusal>
     if !is_blank(file, facet as usize) {
         return Err(Refusal::NotZero(facet));
     }
-    for k in 0..9 {
-        number_at(file, facet, k)?;
+    for corner in 0..3 {
+        check_corner(file, facet, corner)?;
     }
     Ok(())
 }
@@ -102,6 +107,15 @@ fn judge(file: &[u8], room: usize) -> Result<u32, Refusal>
         return Err(Refusal::Room);
     }
     look_through(file, count)
+}
+
+// The units of number k of a facet.
+fn number_at(file: &[u8], facet: u32, k: usize) -> Result<i16, OffGrid>
+    requires { (facet_at facet + 50 ≤ length file.now) × (facet < most_facets) × (k < 9) }
+    ensures { result ≡ read (bits_at file.now facet k) facet }
+{
+    let bits = word_at(file, 96 + 50 * (facet as usize) + 4 * k);
+    number_of(float_of(bits), bits, facet)
 }
 
 // Number i of the file.
