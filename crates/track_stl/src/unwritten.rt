@@ -18,8 +18,8 @@ pub enum Unwritten {
 impl From<Refusal> for Unwritten {
     ghost from_gives = { λ e r. r ≡ unwritten.Run e };
 
-    fn from(refusal: Refusal) -> Unwritten {
-        Unwritten::Run(refusal)
+    fn from(refused: Refusal) -> Unwritten {
+        Unwritten::Run(refused)
     }
 }
 
