@@ -109,6 +109,7 @@ pub(crate) fn skin_written(
     write_skin(job, answers, final_marks, triangles, work, file)
 }
 
+// Here and below the clauses of `tallies`, word for word.
 pub(crate) fn others_counted(
     rows: &[u8],
     work: &[u32],

@@ -15,7 +15,7 @@ use table::{holds, row_count};
 use tallies::flip_row;
 use words::word_at;
 
-// A proposal adds or removes, by its kind.
+// A proposal adds or removes, by its kind: a number as it came, since `answer_all` promises its answer to every number.
 fn adds(kind: usize) -> Result<bool, Declined>
     ensures { MatchResult result (λ adding. ((eqb kind 1 || eqb kind 2) ≡ true) × (adding ≡ eqb kind 1)) (λ e. (e ≡ Declined.Kind) × ((eqb kind 1 || eqb kind 2) ≡ false)) }
 {

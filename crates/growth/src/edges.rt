@@ -15,7 +15,7 @@ pub(crate) fn edge_corner(edge: usize, k: usize) -> usize
     corner_at(EDGES_AT + edge, k)
 }
 
-// The edge opposite each, by position.
+// The edge opposite each, by position: a table says it plainer than a rule.
 static OPPOSITES: [u8; 6] = [5, 4, 3, 2, 1, 0];
 
 fn opposite(edge: usize) -> usize

@@ -21,7 +21,7 @@ ghost use Rattle.growth.specs.Answers.{proposals_in};
 use answering::answer_one;
 
 // Answers the proposals one after the other, each on the marks then standing. The result is how many were taken; the work area is left as
-// the marks are.
+// the marks are. The buffers change on the way, so that no value that carries `Area` could hold them.
 pub fn answer_all(
     rows: &[u8],
     ids: usize,

@@ -49,6 +49,7 @@ fn put_triangles(triangles: &[u32], count: usize, page: &mut Page<'_>)
     page.put_each(count, 35, |k, page| put_triangle(triangles, k, page));
 }
 
+// The page begins here, over the buffer that was lent.
 pub(crate) fn put_done(
     proposals: usize,
     taken: usize,

@@ -27,7 +27,7 @@ fn put_whole(units: i16, page: &mut Page<'_>)
     page.put_number(size);
 }
 
-// What stands behind number k: after each ninth the line ends.
+// What stands behind number k: after each ninth the line ends. A byte of the text, and no kind.
 fn parting_behind(k: usize) -> u8
     ensures { result ≡ parting k }
 {
@@ -42,7 +42,8 @@ fn put_unit(units: &[i16], k: usize, page: &mut Page<'_>)
     page.put_byte(parting_behind(k));
 }
 
-// Writes the text of a list of units to the front of a buffer, and tells how long it is. Of whole facets each has its line.
+// Writes the text of a list of units to the front of a buffer, and tells how long it is. Of whole facets each has its line. It promises this of
+// any buffer that is lent, and so takes no page.
 pub fn list_facets(units: &[i16], out: &mut [u8]) -> usize
     requires { 7 * length units.now ≤ length out.old }
     ensures { (result ≡ length (facets_text units.now)) × (out.new ≡ written (facets_text units.now) out.old) }

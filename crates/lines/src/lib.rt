@@ -18,7 +18,8 @@ use track::run;
 // Bytes enough for every listing: a first line of 68 at most, 1,024 proposals of 12 and 4,096 triangles of 35.
 pub const ROOM: usize = 163840;
 
-// Writes the line of a refusal to the front of a buffer, and tells how long it is: `refused`, code, place, and what more is told.
+// Writes the line of a refusal to the front of a buffer, and tells how long it is: `refused`, code, place, and what more is told. It
+// promises this of any buffer that is lent, and so takes no page.
 pub fn refused_line(numbers: &[usize], out: &mut [u8]) -> usize
     requires { 8 + 21 * length numbers.now ≤ length out.old }
     ensures { (result ≡ length (line word_refused numbers.now)) × (out.new ≡ written (line word_refused numbers.now) out.old) }
@@ -35,7 +36,7 @@ fn proposals_of(job: &[u8]) -> usize
     read(job).map_or(0, |h| h.proposals)
 }
 
-// Writes the listing of a job to the front of a buffer, and tells how long it is.
+// Writes the listing of a job to the front of a buffer that is lent, and tells how long it is.
 pub fn list_job(job: &[u8], out: &mut [u8]) -> usize
     requires { 163840 ≤ length out.old }
     ensures { (result ≡ length (listing_of job.now)) × (out.new ≡ written (listing_of job.now) out.old) }

@@ -101,7 +101,7 @@ impl Around<'_> {
     }
 }
 
-// One of the two ids of a triangle beside the vertex.
+// One of the two ids of a triangle beside the vertex: a choice, and no order.
 fn first_end(f: Face, vertex: usize) -> usize
     ensures { result ≡ first_end f vertex }
 {
@@ -109,7 +109,7 @@ fn first_end(f: Face, vertex: usize) -> usize
 }
 
 // The far edges of a vertex form one ring. The number of its skin triangles and the last of their places are known, and that the vertices below
-// `low` have one.
+// `low` have one, which is asked here alone.
 pub(crate) fn is_ring(marked: Marked, low: usize, vertex: usize, tally: Tally) -> bool
     requires { RingsBelow (table_in marked.table.rows.now) (inside_in marked.marks.now) marked.ids low × Tallied marked.table.rows.now marked.marks.now vertex (4 * rows_in marked.table.rows.now) tally.count tally.place }
     ensures { result ≡ one_ring (table_in marked.entry.table.rows.now) (inside_in marked.entry.marks.now) marked.entry.ids vertex }

@@ -30,7 +30,7 @@ fn triangle_id(rows: &[u8], row: usize, corner: usize, k: usize) -> u32
     id_at(rows, row, corner_at(corner, k)) as u32
 }
 
-// Writes three ids from a place on.
+// Writes three ids from a place on, into the buffer that C lends.
 fn put_ids(triangles: &mut [u32], at: usize, a: u32, b: u32, c: u32)
     requires { at + 3 ≤ length triangles.old }
     ensures { triangles.new ≡ set (set (set triangles.old at a) (at + 1) b) (at + 2) c }
@@ -38,7 +38,8 @@ fn put_ids(triangles: &mut [u32], at: usize, a: u32, b: u32, c: u32)
     triangles[at..at + 3].copy_from_slice(&[a, b, c]);
 }
 
-// Puts the triangle behind the n that are listed; where it is turned, with its last two ids exchanged.
+// Puts the triangle behind the n that are listed; where it is turned, with its last two ids exchanged. `turned`
+// chooses ids, and no step.
 fn put(turned: bool, rows: &[u8], row: usize, corner: usize, triangles: &mut [u32], n: usize)
     requires { (row < rows_in rows.now) × (corner < 4) × (3 * n + 3 ≤ length triangles.old) }
     ensures { triangles.new ≡ sets triangles.old (3 * n) (in_order turned (table_in rows.now) row corner) }

@@ -16,7 +16,7 @@ ghost use Rattle.tallies.specs.Area.{Area};
 use skin::is_inside;
 use table::{clear, id_at, row_count};
 
-// One more, or one less.
+// One more, or one less. A closure for the step would be asked for the bounds of both, and be no plainer.
 fn step(n: u32, up: bool) -> u32
     requires { (up ≡ true → n ≤ most_rows) × (up ≡ false → 0 < n) }
     ensures { result ≡ shifted up n 1 }
@@ -81,7 +81,8 @@ pub fn count_rows(rows: &[u8], marks: &[u8], ids: usize, work: &mut [u32])
     }
 }
 
-// How many rows of the other side hold an id: for an add the inside rows, for a remove all less these.
+// How many rows of the other side hold an id: for an add the inside rows, for a remove all less these. The work area is that of some
+// marks, which it does not take, so that no value with marks would serve.
 pub fn others_at(rows: &[u8], work: &[u32], ids: usize, adding: bool, id: usize) -> usize
     requires { ((marks : List ℕ) × Area rows.now work.now marks ids) × (id < ids) }
     ensures { (marks : List ℕ) → Area rows.now work.now marks ids
@@ -95,7 +96,8 @@ pub fn others_at(rows: &[u8], work: &[u32], ids: usize, adding: bool, id: usize)
     work[first + ids + id] as usize - inside
 }
 
-// A row goes to the other side: its mark is set, and the tallies of its four ids go with it.
+// A row goes to the other side: its mark is set, and the tallies of its four ids go with it. Marks and work area change, so that no
+// value that carries `Area` could hold them.
 pub fn flip_row(rows: &[u8], row: usize, adding: bool, marks: &mut [u8], work: &mut [u32])
     requires { ((ids : ℕ) × Area rows.now work.old marks.old ids) × (row < rows_in rows.now) × (other_side adding (inside_in marks.old) row ≡ false) }
     ensures { (marks.new ≡ set marks.old row (bit adding))

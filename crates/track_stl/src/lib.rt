@@ -40,7 +40,8 @@ fn order_in(placed: Placed<'_>, outward: bool) -> Order<'_>
     Order::Rising(placed.table)
 }
 
-// Lists the skin outward and writes it; then lists it as it was listed, which brings the triangles back.
+// Lists the skin outward and writes it; then lists it as it was listed, which brings the triangles back. `asked`
+// is the header's yes or no, of which `order_in` makes an order.
 fn put_listed(placed: Placed, asked: bool, marks: &[u8], triangles: &mut [u32], file: &mut [u8])
     requires { (rows_in placed.table.rows.now ≤ length marks.now) × (6 * rows_in placed.table.rows.now ≤ length triangles.old)
         × (triangles.old ≡ written (flatten (listed_as asked placed.table.rows.now marks.now placed.points.now)) triangles.old)

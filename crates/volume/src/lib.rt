@@ -40,6 +40,7 @@ pub fn point_at(bytes: &[u8], v: usize) -> Point
 
 // ---- the range of a coordinate, and signs
 
+// `stl` asks the same of an i16, and does not see this crate.
 fn in_range(z: i64) -> bool
     ensures { result ≡ R.in_range z }
 {

@@ -11,7 +11,7 @@ use streams::output::{print_whole, tell};
 // So many bytes at the front of a buffer: a text to print, or the line of a refusal.
 pub(crate) type Said = Result<usize, usize>;
 
-// Code, place, and the bits of a number off the grid.
+// Code, place, and the bits of a number off the grid, into the buffer that goes on to `refused_line`.
 pub(crate) fn refused(numbers: &[usize], out: &mut [u8]) -> Said
     requires { 8 + 21 * length numbers.now ≤ length out.old }
     ensures { Says (line word_refused numbers.now) true out.old (size_in result) (refuses result) out.new }
