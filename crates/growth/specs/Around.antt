@@ -10,16 +10,25 @@ use Rattle.rules.specs.Below.{bit, sum, count, pick}
 use Rattle.rules.specs.Laws.Truth.{true_or_false}
 use Rattle.rules.specs.Laws.Count.{count_more, count_not}
 use Rattle.rules.specs.Laws.Lists.{Among, in_pick, pick_length}
-use Rattle.table.specs.Ground.{neighbour_below, neighbour_listed}
+use Rattle.table.specs.Ground.{Ground, neighbour_below, neighbour_listed}
 use Rattle.table.specs.Rows.{rows_in}
-use Rattle.tallies.specs.Area.{Area, area_ground}
 
 -- its mark and those across can be asked
-pub corner_asked : {rows work marks : List ℕ} {ids : ℕ} → Area rows work marks ids → (r c : ℕ) → r < rows_in rows → c < 4
-    → (4 * r + c < length work) × (r < length marks) × (get_or work (4 * r + c) 0 < length marks)
-corner_asked a r c l k =
-    let on_ground = area_ground a in
-    (neighbour_listed on_ground r c l k, omega (arith, a.each), omega (arith, a.each, neighbour_below on_ground r c l k))
+pub record Surrounded (neighbours marks : List ℕ) (r : ℕ) : Type 0 where
+  pub here : r < length marks
+  pub listed : (c : ℕ) → c < 4 → 4 * r + c < length neighbours
+  pub across : (c : ℕ) → c < 4 → get_or neighbours (4 * r + c) 0 < length marks
+
+pub ground_surrounds : {rows neighbours : List ℕ} {ids : ℕ} (marks : List ℕ) (r : ℕ) → Ground rows neighbours ids → rows_in rows ≤ length marks → r < rows_in rows → Surrounded neighbours marks r
+ground_surrounds marks r on_ground m l = record {
+  here = omega arith;
+  listed = λ c k. neighbour_listed on_ground r c l k;
+  across = λ c k. omega (arith, neighbour_below on_ground r c l k);
+}
+
+pub corner_asked : {neighbours marks : List ℕ} {r : ℕ} → Surrounded neighbours marks r → (c : ℕ) → c < 4
+    → (4 * r + c < length neighbours) × (r < length marks) × (get_or neighbours (4 * r + c) 0 < length marks)
+corner_asked s c l = (s.listed c l, s.here, s.across c l)
 
 -- ---- n numbers were asked: so many pass, and the last that does
 

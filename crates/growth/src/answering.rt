@@ -10,6 +10,7 @@ ghost use Rattle.growth.specs.Declined.{answer_of};
 ghost use Rattle.growth.specs.Answers.{proposal};
 
 use crate::declined::{Declined, answer_of};
+use crate::free::on_other_side;
 use crate::growing::Growing;
 use table::{holds, row_count};
 use tallies::flip_row;
@@ -38,7 +39,7 @@ impl Growing<'_> {
         if holds(self.rows, row, 0) {
             return Err(Declined::Outer);
         }
-        if self.on_other_side(adding, row) {
+        if on_other_side(self.marks, adding, row) {
             return Err(Declined::Side);
         }
         self.local_test(adding, row)?;
@@ -71,12 +72,13 @@ pub(crate) fn answer_one(
         ids,
     };
     let given = growing.answer(row, kind);
-    answers[k] = answer_of(given);
-    match given {
-        Ok(adding) => {
-            flip_row(rows, row, adding, marks, work);
-            1
-        }
-        Err(_) => 0,
+    // What the caller is told decides: 0 is the answer of what is taken, and of nothing else.
+    let number = answer_of(given);
+    answers[k] = number;
+    let refused = number != 0;
+    if refused {
+        return 0;
     }
+    flip_row(rows, row, given.unwrap(), marks, work);
+    1
 }

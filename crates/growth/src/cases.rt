@@ -8,8 +8,10 @@ ghost use Rattle.skin.specs.Between.{between};
 ghost use Rattle.growth.specs.Around.{Counted};
 ghost use Rattle.growth.specs.Declined.{number_of, answer_of};
 
+use crate::closed::Closed;
 use crate::declined::Declined;
 use crate::edges::{edge_corner, opposite_corner};
+use crate::free::{vertex_free, vertices_free};
 use crate::growing::Growing;
 use round::Edge;
 use values::choose;
@@ -28,10 +30,10 @@ fn unless_free(free: bool, case: Declined) -> Result<(), Declined>
     if free { Ok(()) } else { Err(case) }
 }
 
-impl Growing<'_> {
+impl Closed<'_> {
     fn left_out(self, row: usize) -> LeftOut
-        requires { row < rows_in self.rows.now }
-        ensures { Counted (between self.entry.work.now self.entry.marks.now row) 4 result.count result.last }
+        requires { row < rows_in self.table.rows.now }
+        ensures { Counted (between self.entry.table.neighbours.now self.entry.marks.now row) 4 result.count result.last }
     {
         let mut count = 0;
         let mut last = 0;
@@ -45,29 +47,37 @@ impl Growing<'_> {
 
     // No row of the other side holds the edge that is in neither of two skin triangles.
     fn edge_free(self, adding: bool, row: usize) -> bool
-        requires { (row < rows_in self.rows.now) × (count 4 (between self.work.now self.marks.now row) ≡ 2) }
-        ensures { result ≡ free (table_in self.entry.rows.now) (other_side adding (inside_in self.entry.marks.now)) row
-            (pick 4 (between self.entry.work.now self.entry.marks.now row)) }
+        requires { (row < rows_in self.table.rows.now) × (count 4 (between self.table.neighbours.now self.marks.now row) ≡ 2) }
+        ensures { result ≡ free (table_in self.entry.table.rows.now) (other_side adding (inside_in self.entry.marks.now)) row
+            (pick 4 (between self.entry.table.neighbours.now self.entry.marks.now row)) }
     {
-        let table = self.table();
         let shared = self.shared_edge(row);
-        let a = table.id_at(row, opposite_corner(shared, 0));
-        let b = table.id_at(row, opposite_corner(shared, 1));
-        let last = table.across(row, edge_corner(shared, 0));
+        let a = self.table.id_at(row, opposite_corner(shared, 0));
+        let b = self.table.id_at(row, opposite_corner(shared, 1));
+        let last = self.table.across(row, edge_corner(shared, 0));
         self.about_free(adding, Edge { a, b }, row, last)
     }
+}
 
+impl Growing<'_> {
     // Whether the row passes the five cases, or what a row of the other side holds.
     pub(crate) fn local_test(self, adding: bool, row: usize) -> Result<(), Declined>
         requires { row < rows_in self.rows.now }
         ensures { answer_of result ≡ case_answer (table_in self.entry.rows.now) (inside_in self.entry.marks.now) adding row }
     {
-        let skin = self.left_out(row);
+        let closed = self.closed();
+        let skin = closed.left_out(row);
         let f = skin.count;
         match f {
-            0 => unless_free(self.vertices_free(adding, row), Declined::Vertices),
-            1 => unless_free(self.vertex_free(adding, row, skin.last), Declined::Opposite),
-            2 => unless_free(self.edge_free(adding, row), Declined::Edge),
+            0 => unless_free(
+                vertices_free(self.rows, self.work, self.ids, adding, row),
+                Declined::Vertices,
+            ),
+            1 => unless_free(
+                vertex_free(self.rows, self.work, self.ids, adding, row, skin.last),
+                Declined::Opposite,
+            ),
+            2 => unless_free(closed.edge_free(adding, row), Declined::Edge),
             _ => Ok(()),
         }
     }

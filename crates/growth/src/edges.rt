@@ -5,7 +5,7 @@ ghost use Rattle.table.specs.Rows.{rows_in};
 ghost use Rattle.skin.specs.Between.{between};
 ghost use Rattle.growth.specs.Edges.{edge_corner, opposite_edge, opposite_corner, in_both};
 
-use crate::growing::Growing;
+use crate::closed::Closed;
 use table::faces::{EDGES_AT, corner_at};
 
 pub(crate) fn edge_corner(edge: usize, k: usize) -> usize
@@ -32,19 +32,19 @@ pub(crate) fn opposite_corner(edge: usize, k: usize) -> usize
     edge_corner(opposite(edge), k)
 }
 
-impl Growing<'_> {
+impl Closed<'_> {
     // An edge is in each skin triangle of the row: none leaves out one of its corners.
     fn in_both(self, row: usize, edge: usize) -> bool
-        requires { (row < rows_in self.rows.now) × (edge < 6) }
-        ensures { result ≡ in_both (between self.entry.work.now self.entry.marks.now row) edge }
+        requires { (row < rows_in self.table.rows.now) × (edge < 6) }
+        ensures { result ≡ in_both (between self.entry.table.neighbours.now self.entry.marks.now row) edge }
     {
         !(self.on_skin(row, edge_corner(edge, 0)) | self.on_skin(row, edge_corner(edge, 1)))
     }
 
     // The position of the edge that two skin triangles share. The edge opposite it is in neither.
     pub(crate) fn shared_edge(self, row: usize) -> usize
-        requires { (row < rows_in self.rows.now) × (count 4 (between self.work.now self.marks.now row) ≡ 2) }
-        ensures { (result < 6) × (pick 4 (between self.entry.work.now self.entry.marks.now row) ≡ opposite_corner result 0 ∷ opposite_corner result 1 ∷ []) }
+        requires { (row < rows_in self.table.rows.now) × (count 4 (between self.table.neighbours.now self.marks.now row) ≡ 2) }
+        ensures { (result < 6) × (pick 4 (between self.entry.table.neighbours.now self.entry.marks.now row) ≡ opposite_corner result 0 ∷ opposite_corner result 1 ∷ []) }
     {
         (0..6).find(|&edge| self.in_both(row, edge)).unwrap()
     }

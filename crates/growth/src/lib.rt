@@ -4,11 +4,11 @@
 mod about;
 mod answering;
 mod cases;
+mod closed;
 mod declined;
 mod edges;
 mod free;
 mod growing;
-mod sides;
 
 ghost use Rattle.std.specs.Prelude.{◌≡◌, ◌/◌, ◌≤◌, length};
 ghost use Rattle.rules.specs.Proposals.{answers_to, final_marks, taken};

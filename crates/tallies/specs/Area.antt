@@ -19,7 +19,7 @@ use Rattle.rules.specs.Reading.Rows.{holds_reads}
 use Rattle.rules.specs.Reading.Closed.{Closed, list_length}
 use Rattle.rules.specs.Reading.Work.{work_length, work_across, work_inside, work_every}
 use Rattle.table.specs.Rows.{rows_in, id_in, table_in}
-use Rattle.table.specs.Ground.{Ground}
+use Rattle.table.specs.Ground.{Ground, ClosedGround}
 use Rattle.tallies.specs.Steps.{shifted, RowSteppable, step_row, row_stepped}
 
 -- a truth as a number, as the code has it and as `rules` does
@@ -50,6 +50,9 @@ module _ {rows work marks : List ℕ} {ids : ℕ} (a : Area rows work marks ids)
     room = omega (arith, area_long);
     at = λ r c l m. ap (λ (xs : List ℕ). get_or xs (4 * r + c) 0) a.area ∙ work_across t ids marks r c l m;
   }
+
+  pub area_closed : ClosedGround rows work
+  area_closed = (ids, area_ground, a.closed)
 
   pub id_below : (r c : ℕ) → r < rows_in rows → c < 4 → id_in rows r c < ids
   id_below r c l m = a.closed.paired.below r l c m

@@ -3,7 +3,7 @@ use Rattle.growth.specs.Around.{counted_none, counted_small, counted_more}
 use Rattle.tallies.specs.Area.{bit_of}
 use Rattle.rules.specs.Below.{bit}
 use Rattle.rules.specs.Laws.Count.{bit_small}
-use Rattle.growth.proofs.growing.Growing.left_out.Goals as goal
+use Rattle.growth.proofs.closed.Closed.left_out.Goals as goal
 
 pub loop-corner-init : goal.loop-corner-init
 loop-corner-init c = counted_none

@@ -1,6 +1,6 @@
 use Rattle.std.proofs.Common.{lit<}
 use Rattle.growth.specs.Edges.{in_both, edge_below}
-use Rattle.growth.proofs.growing.Growing.in_both.Goals as goal
+use Rattle.growth.proofs.closed.Closed.in_both.Goals as goal
 
 pub on_skin-requires : goal.on_skin-requires
 on_skin-requires c = (c.requires.0, rw c.edge_corner.ensures (edge_below _ 0 c.requires.1 (lit< tt)))

@@ -1,7 +1,7 @@
 use Rattle.std.proofs.Common.{◌∙◌}
 use Rattle.growth.specs.Free.{other_side_lem}
 use Rattle.rules.specs.Cases.{other_side}
-use Rattle.growth.proofs.growing.Growing.on_other_side.Goals as goal
+use Rattle.growth.proofs.free.on_other_side.Goals as goal
 
 pub returns : goal.returns
 unfolding other_side

@@ -1,6 +1,0 @@
-use Rattle.growth.specs.Around.{Counted}
-use Rattle.skin.specs.Between.{between}
-use Rattle.growth.proofs.growing.Growing.left_out.Given as goal
-
-abbrev pub invariant-loop-corner : goal.invariant-loop-corner
-invariant-loop-corner l = Counted (between l.self.work.now l.self.marks.now l.row) l.corner l.count l.last

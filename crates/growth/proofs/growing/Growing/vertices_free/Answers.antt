@@ -1,6 +1,0 @@
-use Rattle.std.proofs.Common.{rules}
-use Rattle.growth.specs.Asked.{all_asked}
-use Rattle.growth.proofs.growing.Growing.vertices_free.Goals as goal
-
-pub returns : goal.returns
-returns c = all_asked _ _ 4 _ (search rules) c.all.ensures.ran (λ x q k. search rules) (λ x q k. search rules)
