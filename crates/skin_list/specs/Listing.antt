@@ -1,14 +1,16 @@
 -- The skin list, place by place: place p is the triangle of row p / 4 that leaves out corner p % 4.
-use Rattle.std.specs.Prelude.{◌≡◌, refl, Bool, true, false, ◌&&◌, cond, ℕ, suc, ◌+◌, ◌*◌, ◌/◌, ◌%◌, ◌≤◌, ◌<◌, length, set}
+use Rattle.std.specs.Prelude.{◌≡◌, refl, Bool, true, false, not, ◌&&◌, cond, ℕ, suc, ◌+◌, ◌*◌, ◌/◌, ◌%◌, ◌≤◌, ◌<◌, length, set}
 use Rattle.std.proofs.Math.Path.{sym, ap}
 use Rattle.std.proofs.Common.{◌∙◌, le_antisymm, mod-lt, add-one, arith, lit<, length-append}
+use Rattle.std.proofs.Math.Option.{some}
 use mathlib.Core.List.{List, [], ◌∷◌, ◌++◌, flatten, append-nil}
 use Rattle.std.proofs.lemmas.List.Edits.{sets}
 use Rattle.std.proofs.Math.Seq.{length-sets}
 use Rattle.rules.specs.Below.{gather, only}
 use Rattle.rules.specs.Table.{Table}
 use Rattle.rules.specs.Skin.{on_skin, triangle, skin_as}
-use Rattle.rules.specs.Outward.{exchanged, triangle_as}
+use Rattle.rules.specs.Points.{Point, point_in}
+use Rattle.rules.specs.Outward.{right_way, exchanged, triangle_as}
 use Rattle.rules.specs.Proposals.{inside_in}
 use Rattle.rules.specs.Job.{written}
 use Rattle.rules.specs.Laws.Lists.{gather_more, gather_grows, flatten_snoc}
@@ -137,8 +139,13 @@ module _ {bytes : List ℕ} {id_count : ℕ} (paired : Paired (table_in bytes) i
 -- ---- outward, where it is asked for
 
 -- rising ids are the wrong way
-pub turned_order : {turned : Bool} (order : Order) (r c : ℕ) → turned ≡ is_turned order r c
+pub turned_order : {listed turned : Bool} (outward : Bool) (t : Table) (at : ℕ → Point) (r c : ℕ) → turned ≡ (listed && outward && not (right_way t at r c)) → listed ≡ true
+    → in_order turned t r c ≡ triangle_as t outward (some at) r c
+unfolding triangle_as
+turned_order outward t at r c e on = rw (e, on)
+
+pub order_turned : {turned : Bool} (order : Order) (r c : ℕ) → turned ≡ is_turned order r c
     → in_order turned (table_in (rows_of order)) r c ≡ triangle_as (table_in (rows_of order)) true (points_of order) r c
 unfolding triangle_as
-turned_order (Rising t) r c e = rw e
-turned_order (Outward p) r c e = rw e
+order_turned (Rising t) r c e = rw e
+order_turned (Outward p) r c e = turned_order {listed = true} true (table_in p.table.rows.now) (point_in p.points.now) r c e refl

@@ -1,6 +1,7 @@
 -- The order in which the ids of a triangle are listed, by what tells it.
-use Rattle.std.specs.Prelude.{List, ℕ, Bool, false, not}
-use Rattle.rules.specs.Outward.{right_way}
+use Rattle.std.specs.Prelude.{◌≡◌, refl, List, ℕ, Bool, true, false, not, cond}
+use Rattle.rules.specs.Outward.{right_way, triangle_as}
+use Rattle.rules.specs.Table.{Table}
 use Rattle.rules.specs.Reading.Closed.{Paired}
 use Rattle.table.specs.Rows.{table_in}
 use Rattle.table.specs.Tested.{grounded_of}
@@ -28,3 +29,10 @@ is_turned (Outward p) r c = not (right_way (table_in p.table.rows.now) (point_in
 pub paired_of : (order : Order) → (ids : ℕ) × Paired (table_in (rows_of order)) ids
 paired_of (Rising t) = let (ids, on_ground) = grounded_of t.tested in (ids, on_ground.paired)
 paired_of (Outward p) = let (ids, on_ground) = grounded_of p.table.tested in (ids, on_ground.paired)
+
+-- what is listed by the points of an order is what is listed as it was asked for: rising, no point is read
+pub order_asked : (t : Table) (outward : Bool) (at : ℕ → Point) {points : Option (ℕ → Point)} → points ≡ cond outward (some at) none
+    → triangle_as t true points ≡ triangle_as t outward (some at)
+unfolding triangle_as
+order_asked t true at e = rw e refl
+order_asked t false at e = rw e refl

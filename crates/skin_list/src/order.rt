@@ -1,6 +1,10 @@
 // The order in which the ids of each triangle are listed.
-ghost use Rattle.std.specs.Prelude.{◌≡◌};
-ghost use Rattle.skin_list.specs.Orders.{rows_of};
+ghost use Rattle.std.specs.Prelude.{◌≡◌, true, cond};
+ghost use Rattle.std.proofs.Math.Option.{some, none};
+ghost use Rattle.rules.specs.Points.{point_in};
+ghost use Rattle.table.specs.Tested.{IdsTested};
+ghost use Rattle.points.specs.Grid.{Grid};
+ghost use Rattle.skin_list.specs.Orders.{rows_of, points_of};
 
 use points::placed::Placed;
 use table::checked::Table;
@@ -13,6 +17,17 @@ pub enum Order<'a> {
 }
 
 impl<'a> Order<'a> {
+    // Outward where that is asked for, by the points, of which there is one for each id; else rising, and no point is read.
+    pub fn of(table: Table<'a>, points: &'a [u8], ids: usize, outward: bool) -> Order<'a>
+        requires { IdsTested table.rows.now ids × (outward ≡ true → Grid points.now ids) }
+        ensures { (rows_of result ≡ table.entry.rows.now) × (points_of result ≡ cond outward (some (point_in points.now)) none) }
+    {
+        if !outward {
+            return Order::Rising(table);
+        }
+        Order::Outward(Placed { table, points, ids })
+    }
+
     pub(crate) fn table(self) -> Table<'a>
         ensures { result.rows.now ≡ rows_of self.entry }
     {

@@ -1,5 +1,6 @@
 -- What is wrong with a facet.
 use Rattle.std.specs.Prelude.{◌≡◌, ◌≤◌, ◌<◌, Bool, ◌&&◌, cond, List, ℕ, ◌+◌, ◌*◌, eqb, get_or, ℤ, Result, Ok, Err}
+use Rattle.std.specs.Result.{result_and}
 use Rattle.std.proofs.Math.Path.{refl, subst}
 use Rattle.std.proofs.Common.{sym, ap, ◌∙◌, arith, eqb-true, eq-eqb}
 use Rattle.std.proofs.Math.Bool.{true, false}
@@ -99,6 +100,19 @@ module _ (bytes : List ℕ) (f k : ℕ) (before : lowest k (off bytes f) ≡ non
 unfoldable pub then_rest : Result ℤ OffGrid → Result (Unit {0}) OffGrid → Result (Unit {0}) OffGrid
 then_rest (Ok u) rest = rest
 then_rest (Err o) rest = Err o
+
+-- that a number is on the grid, or that it is off
+abbrev pub was_read : Result ℤ OffGrid → Result (Unit {0}) OffGrid
+was_read (Ok u) = Ok tt
+was_read (Err o) = Err o
+
+-- of three the first that is off decides
+pub three_say : (x y z : Result ℤ OffGrid) → was_read (result_and (result_and x y) z) ≡ then_rest x (then_rest y (then_rest z (Ok tt)))
+unfolding then_rest
+three_say (Err o) y z = refl
+three_say (Ok x) (Err o) z = refl
+three_say (Ok x) (Ok y) (Err o) = refl
+three_say (Ok x) (Ok y) (Ok z) = refl
 
 -- the first number off the grid of corner c
 unfoldable pub corner_fault : List ℕ → ℕ → ℕ → Result (Unit {0}) OffGrid

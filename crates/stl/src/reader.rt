@@ -45,16 +45,17 @@ fn is_blank(file: &[u8], facet: usize) -> bool
         & (file[place + 49] == 0)
 }
 
-// The three numbers of a corner of a facet.
+// The three numbers of a corner of a facet: the first that is off the grid is told.
 fn check_corner(file: &[u8], facet: u32, corner: usize) -> Result<(), OffGrid>
     requires { (facet_at facet + 50 ≤ length file.now) × (facet < most_facets) × (corner < 3) }
     ensures { result ≡ corner_fault file.now facet corner }
 {
     let place = 96 + 50 * (facet as usize) + 12 * corner;
     let c = corner_at(file, place);
-    number_of(c.x, word_at(file, place), facet)?;
-    number_of(c.y, word_at(file, place + 4), facet)?;
-    number_of(c.z, word_at(file, place + 8), facet)?;
+    let x = number_of(c.x, word_at(file, place), facet);
+    let y = number_of(c.y, word_at(file, place + 4), facet);
+    let z = number_of(c.z, word_at(file, place + 8), facet);
+    x.and(y).and(z)?;
     Ok(())
 }
 

@@ -121,8 +121,8 @@ module _ {bytes work : List ℕ} {ids : ℕ} (ground : Ground bytes work ids) (a
     few_reached = omega (arith, ground.few, f.counted, count_not (rows_in bytes) (stamped k stamp))
 
     pub rows_end : start < rows_in bytes → both (table_in bytes) a b start ≡ true → 4 * tail ≤ i → (eqb tail (count (rows_in bytes) (both (table_in bytes) a b)) ≡ both_joined (table_in bytes) a b)
-        × ((y : ℕ) → y < rows_in bytes → get_or stamp y 0 ≤ k)
-    rows_end ls held l = (rows_joined ground.paired refl a b k start stamp tail (ls, held) (flood_ends four_ways (rows_in bytes) k start (leaves (table_in bytes) a b) (across (table_in bytes)) (Joining (table_in bytes) a b start) f l), f.low)
+        × (length stamp ≡ most_rows) × (length queue ≡ most_rows) × ((y : ℕ) → y < rows_in bytes → get_or stamp y 0 ≤ k)
+    rows_end ls held l = (rows_joined ground.paired refl a b k start stamp tail (ls, held) (flood_ends four_ways (rows_in bytes) k start (leaves (table_in bytes) a b) (across (table_in bytes)) (Joining (table_in bytes) a b start) f l), f.stamps, f.places, f.low)
 
 -- row x stands at place i of the queue, and the corners below `corner` are done
 pub record Spreading (bytes : List ℕ) (a b start k i x corner : ℕ) (stamp queue : List ℕ) (tail : ℕ) : Type 0 where

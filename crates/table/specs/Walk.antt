@@ -1,13 +1,13 @@
 -- A walk along the chain of a place: what it has found of the places with the same ids.
-use Rattle.std.specs.Prelude.{◌≡◌, Bool, true, false, ◌&&◌, cond, List, ℕ, ◌+◌, ◌*◌, ◌≤◌, ◌<◌, eqb, get_or}
+use Rattle.std.specs.Prelude.{◌≡◌, refl, Bool, true, false, ◌&&◌, cond, List, ℕ, ◌+◌, ◌*◌, ◌≤◌, ◌<◌, eqb, get_or}
 use Rattle.std.proofs.Math.Path.{sym}
 use Rattle.std.proofs.Common.{ap, subst, arith}
 use Rattle.std.proofs.Math.Bool.{not}
 use Rattle.rules.specs.Below.{any, bit, count}
 use Rattle.rules.specs.Table.{Table}
-use Rattle.rules.specs.Laws.Truth.{and_first}
+use Rattle.rules.specs.Laws.Truth.{not_both, is_false, and_first}
 use Rattle.rules.specs.Laws.Below.{any_here, none_any}
-use Rattle.rules.specs.Laws.Count.{count_not}
+use Rattle.rules.specs.Laws.Count.{count_not, none_count}
 use Rattle.rules.specs.Laws.Highest.{highest}
 use Rattle.table.specs.declared.faces.Face.{Face}
 use Rattle.table.specs.Faces.{same_ids, key_of, key_below}
@@ -39,6 +39,14 @@ module _ (t : Table) (base m p : ℕ) where
   pub record Missed (q : ℕ) : Type 0 where
     pub standing : Standing q
     pub misses : (k : ℕ) → k < q → like t base m p k ≡ false
+
+  -- where none before it has the ids, a walk may begin at the place itself
+  pub walk_onward : p < places → true ≡ not (any p (like t base m p)) → Walked p 0 (highest p (another t base m p))
+  walk_onward l off = record {
+    standing = record { upto = omega (arith, l); hits = λ _. refl };
+    counted = sym (none_count p (like t base m p) (λ k below. is_false (like t base m p k) (λ on. not_both (sym off) (ap not (any_here p (like t base m p) k below on)))));
+    last = refl;
+  }
 
   another_key : (q : ℕ) → q < places → another t base m p q ≡ true → key q ≡ key p
   unfolding another

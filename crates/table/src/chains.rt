@@ -1,5 +1,5 @@
 // Places threaded into chains: the places of one key, rising.
-ghost use Rattle.std.specs.Prelude.{◌≡◌, not, ◌*◌, ◌≤◌, ◌<◌, get_or, length, set};
+ghost use Rattle.std.specs.Prelude.{◌≡◌, true, not, ◌*◌, ◌≤◌, ◌<◌, get_or, length, set};
 ghost use Rattle.rules.specs.Below.{any, count};
 ghost use Rattle.table.specs.Rows.{table_in, rows_in};
 ghost use Rattle.rules.specs.Laws.Highest.{highest};
@@ -68,12 +68,31 @@ impl Chains {
         let mut other = 0;
         let mut q = self.head[face.key()] as usize;
         while q < end {
-            let hit = face == kind.face_at(rows, q);
+            let hit = face.same_ids(kind.face_at(rows, q));
             count += choose(hit, 1, 0);
             other = choose(hit & (q != place), q, other);
             q = self.next[q] as usize;
         }
         Like { count, other }
+    }
+
+    // How many places have the ids of a place before which none has them: the walk begins there.
+    pub(crate) fn like_onward(&self, rows: &[u8], kind: FaceKind, place: usize) -> usize
+        requires { (rows_in rows.now ≤ most_rows) × (place < each_of kind * rows_in rows.now)
+            × Chained (table_in rows.now) (first_of kind) (each_of kind) self.now.head self.now.next
+            × (true ≡ not (any place (like (table_in rows.now) (first_of kind) (each_of kind) place))) }
+        ensures { result ≡ count (each_of kind * rows_in rows.now) (like (table_in rows.now) (first_of kind) (each_of kind) place) }
+    {
+        let end = kind.each() * row_count(rows);
+        let face = kind.face_at(rows, place);
+        let mut count = 0;
+        let mut q = place;
+        while q < end {
+            let hit = face.same_ids(kind.face_at(rows, q));
+            count += choose(hit, 1, 0);
+            q = self.next[q] as usize;
+        }
+        count
     }
 
     // No place before this one has its ids.
@@ -85,7 +104,7 @@ impl Chains {
         let face = kind.face_at(rows, place);
         let mut q = self.head[face.key()] as usize;
         while q < place {
-            if face == kind.face_at(rows, q) {
+            if face.same_ids(kind.face_at(rows, q)) {
                 return false;
             }
             q = self.next[q] as usize;

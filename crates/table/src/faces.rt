@@ -1,7 +1,7 @@
 // The faces of a row: its triangles, edges and vertices, each as three ids.
 ghost use Rattle.std.specs.Prelude.{◌≡◌, ◌+◌, ◌*◌, ◌/◌, ◌<◌};
 ghost use Rattle.table.specs.Rows.{table_in, rows_in};
-ghost use Rattle.table.specs.Faces.{corner_of, face_of, key_of, first_of, each_of};
+ghost use Rattle.table.specs.Faces.{corner_of, face_of, same_ids, key_of, first_of, each_of};
 ghost use Rattle.table.specs.Places.{face_at};
 
 use crate::id_at;
@@ -45,6 +45,13 @@ impl Face {
         }
     }
 
+    // Equal ids, as `==` says too: that stops at the first pair that differs, and along a chain the branches cost more than the rest of the compare.
+    pub(crate) fn same_ids(self, other: Face) -> bool
+        ensures { result ≡ same_ids self other }
+    {
+        (self.a == other.a) & (self.b == other.b) & (self.c == other.c)
+    }
+
     // The key by which faces are threaded into chains.
     pub(crate) fn key(self) -> usize
         ensures { result ≡ key_of self }
@@ -61,8 +68,10 @@ pub(crate) enum FaceKind {
     Vertices,
 }
 
-// Where the edges begin in the table of corners.
+// Where the edges begin in the table of corners, and how many a row has.
 pub const EDGES_AT: usize = 4;
+
+pub const EDGES: usize = 6;
 
 impl FaceKind {
     // How many a row has.
@@ -70,7 +79,7 @@ impl FaceKind {
         ensures { result ≡ each_of self }
     {
         match self {
-            FaceKind::Edges => 6,
+            FaceKind::Edges => EDGES,
             FaceKind::Triangles | FaceKind::Vertices => 4,
         }
     }
@@ -80,7 +89,7 @@ impl FaceKind {
         ensures { result ≡ place / each_of self }
     {
         match self {
-            FaceKind::Edges => place / 6,
+            FaceKind::Edges => place / EDGES,
             FaceKind::Triangles | FaceKind::Vertices => place / 4,
         }
     }
@@ -92,7 +101,7 @@ impl FaceKind {
     {
         match self {
             FaceKind::Triangles => Face::of(rows, place / 4, place % 4),
-            FaceKind::Edges => Face::of(rows, place / 6, EDGES_AT + place % 6),
+            FaceKind::Edges => Face::of(rows, place / EDGES, EDGES_AT + place % EDGES),
             FaceKind::Vertices => Face::vertex(rows, place / 4, place % 4),
         }
     }

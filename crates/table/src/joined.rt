@@ -33,8 +33,7 @@ fn face_joined(
     let face = kind.face_at(table.rows, place);
     let start = kind.row_of(place);
     let reached = reached_from(table, face.a, face.b, start, (place + 1) as u16, flood);
-    let found = chains.like_places(table.rows, kind, place);
-    reached == found.count
+    reached == chains.like_onward(table.rows, kind, place)
 }
 
 // The flood goes on from place to place, so that no search by a test of the place alone serves.

@@ -1,6 +1,6 @@
 -- The run in stages: header and room, table, marks, points, proposals. Each says what is still to be decided when it begins.
-use Rattle.std.specs.Prelude.{◌≡◌, refl, ◌≢◌, true, false, cond, ℕ, ◌*◌, ◌/◌, ◌≤◌, eqb, leb, length, take, replicate}
-use Rattle.std.proofs.Common.{sym, ◌∙◌, ⊎_elim, le_refl, arith, lit<, lit≤}
+use Rattle.std.specs.Prelude.{◌≡◌, refl, ◌≢◌, Bool, true, false, ◌||◌, cond, ℕ, ◌*◌, ◌/◌, ◌≤◌, eqb, leb, length, take, replicate}
+use Rattle.std.proofs.Common.{sym, ◌∙◌, subst, ⊎_elim, le_refl, arith, lit<, lit≤}
 use Rattle.std.proofs.Math.Path.{ap, ap₂}
 use Rattle.std.proofs.Math.Option.{Option, some, none}
 use mathlib.Core.List.{List, ◌++◌, flatten}
@@ -30,7 +30,7 @@ use Rattle.table.specs.Rows.{table_in, rows_in}
 use Rattle.table.specs.Ground.{Ground}
 use Rattle.rings.specs.Far.{Marked}
 use Rattle.points.specs.Grid.{Grid, none_off}
-use Rattle.tallies.specs.Area.{area_ground}
+use Rattle.tallies.specs.Area.{Area, area_ground}
 use Rattle.growth.specs.Answers.{proposals_in}
 use Rattle.track.specs.Outcomes.{lent, result_of, refusal}
 
@@ -162,25 +162,27 @@ on_grid_lem h t marks {points} few long e on =
     let passed = (match_parts 10 (lit< tt) (mark_tests t h.ids marks) _ e).1 in
     none_off (match_zero 13 (lit< tt) _ _ (rw on at passed)).0 few (points_room h t points on long)
 
--- the order of a triangle that is asked for: outward where there are points and it is asked, else rising
-pub outward_order : (h : Header) (t : Table) (points : List ℕ) → asks_outward track (meant h) ≡ true
-    → triangle_as t true (some (point_in points)) ≡ triangle_as t (asks_outward track (meant h)) (points_of track (meant h) points)
-unfolding points_of
-outward_order h t points asked = rw (asked, outward_pointed track (meant h) asked)
-
-pub rising_order : (h : Header) (t : Table) (points : List ℕ) → asks_outward track (meant h) ≡ false
-    → triangle_as t true none ≡ triangle_as t (asks_outward track (meant h)) (points_of track (meant h) points)
-unfolding triangle_as
-rising_order h t points off = rw off (by (points_of track (meant h) points))
+-- the order of a triangle that is asked for: outward only where there are points, and for rising no point is read
+asked_order : (h : Header) (t : Table) (points : List ℕ)
+    → triangle_as t (asks_outward track (meant h)) (some (point_in points)) ≡ triangle_as t (asks_outward track (meant h)) (points_of track (meant h) points)
+unfolding triangle_as points_of asks_outward has_points
+asked_order h t points = go (eqb h.mode 1) (eqb h.mode 3)
   where
-    by : (o : Option (ℕ → Point)) → triangle_as t true none ≡ triangle_as t false o
-    by none = refl
-    by (some at) = refl
+    go : (one three : Bool) → triangle_as t one (some (point_in points)) ≡ triangle_as t one (cond (one || three) (some (point_in points)) none)
+    go true three = refl
+    go false true = refl
+    go false false = refl
 
 -- the skin of the front of the final marks, in the order asked for
 abbrev pub front_skin : Header → List ℕ → List ℕ → List ℕ → List (List ℕ)
 front_skin h rows points final =
     skin_as (table_in rows) (inside_in (take (rows_in rows) final)) (triangle_as (table_in rows) (asks_outward track (meant h)) (points_of track (meant h) points))
+
+pub front_listed : (h : Header) (rows points final triangles₀ : List ℕ) {n count : ℕ} {asked : Bool} {triangles : List ℕ} → n ≡ rows_in rows → asked ≡ asks_outward track (meant h)
+    → (count ≡ length (skin_as (table_in rows) (inside_in (take n final)) (triangle_as (table_in rows) asked (some (point_in points)))))
+    × (triangles ≡ written (flatten (skin_as (table_in rows) (inside_in (take n final)) (triangle_as (table_in rows) asked (some (point_in points))))) triangles₀)
+    → (count ≡ length (front_skin h rows points final)) × (triangles ≡ written (flatten (front_skin h rows points final)) triangles₀)
+front_listed h rows points final triangles₀ en ea e = rw (en, ea, asked_order h (table_in rows) points) at e
 
 -- ---- the work that is needed, lent by itself
 
@@ -216,6 +218,10 @@ front_decides h tests code l job fits answers final triangles work room =
 front_written : (xs d : List ℕ) {n : ℕ} → n ≡ length xs → take n (written xs d) ≡ xs
 unfolding written
 front_written xs d e = rw e (take-append_seam xs (drop (length xs) d))
+
+-- growing may rest on it
+pub front_area : {rows work marks : List ℕ} {ids : ℕ} → Area rows work marks ids → (final₀ : List ℕ) {whole : List ℕ} → whole ≡ written marks final₀ → Area rows work (take (length marks) whole) ids
+front_area {rows} {work} {marks} {ids} a final₀ copied = subst (λ (m : List ℕ). Area rows work m ids) (sym (rw copied (front_written marks final₀ refl))) a
 
 module _ (t : Table) (marks final₀ : List ℕ) (ps : List Proposal) {whole : List ℕ} (copied : whole ≡ written marks final₀) where
   front_is : take (length marks) whole ≡ marks

@@ -1,13 +1,9 @@
 // An accepted job: its rows are counted at their ids, its proposals are answered and its skin is listed. Code 0.
-ghost use Rattle.std.specs.Prelude.{true, ◌≡◌, ◌*◌, ◌/◌, ◌≤◌, length};
+ghost use Rattle.std.specs.Prelude.{◌≡◌, ◌*◌, ◌/◌, ◌≤◌, length};
 ghost use mathlib.Core.List.{flatten};
 ghost use Rattle.rules.specs.Proposals.{answers_to, final_marks as marks_grown, taken};
 ghost use Rattle.rules.specs.Work.{work_area};
-ghost use Rattle.rules.specs.Job.{track, asks_outward, points_of, written, accepted};
-ghost use Rattle.rules.specs.Outward.{triangle_as};
-ghost use Rattle.job.specs.Reading.{meant};
-ghost use Rattle.table.specs.Tested.{IdsTested};
-ghost use Rattle.skin_list.specs.Orders.{rows_of, points_of as told};
+ghost use Rattle.rules.specs.Job.{written, accepted};
 ghost use Rattle.table.specs.Rows.{table_in, rows_in};
 ghost use Rattle.table.specs.Ground.{Ground};
 ghost use Rattle.tallies.specs.Area.{Area};
@@ -18,7 +14,6 @@ ghost use Rattle.track.specs.Stages.{job_in, Ready, OnGrid, front_skin};
 use crate::refusal::Grown;
 use growth::answer_all;
 use job::Header;
-use points::placed::Placed;
 use skin_list::list_skin;
 use skin_list::order::Order;
 use table::checked::Table;
@@ -32,6 +27,16 @@ pub(crate) struct Sections<'a> {
     pub(crate) marks: &'a [u8],
     pub(crate) proposals: &'a [u8],
     pub(crate) points: &'a [u8],
+}
+
+// By hand and not by `copy_from_slice`, which would call `memmove`: of the C library the archive needs `memset` alone (track.h).
+fn copy(from: &[u8], to: &mut [u8])
+    requires { length from.now ≤ length to.old }
+    ensures { to.new ≡ written from.now to.old }
+{
+    for i in 0..from.len() {
+        to[i] = from[i];
+    }
 }
 
 // The answers, and at the front of the final marks the marks after them, with the work area for these. Marks and work area change on the way
@@ -51,25 +56,9 @@ fn answer_copied(
         × (final_marks.new ≡ written (marks_grown (table_in rows.now) marks.now (proposals_in proposals.now)) final_marks.old)
         × (work.new ≡ work_area (table_in rows.now) ids (marks_grown (table_in rows.now) marks.now (proposals_in proposals.now))) }
 {
+    copy(marks, final_marks);
     let n = marks.len();
-    final_marks[..n].copy_from_slice(marks);
     answer_all(rows, ids, proposals, answers, &mut final_marks[..n], work)
-}
-
-// The order that word 7 asks for.
-fn order_of<'a>(h: Header, table: Table<'a>, points: &'a [u8]) -> Order<'a>
-    requires { IdsTested table.rows.now h.ids × OnGrid h points.now }
-    ensures { (rows_of result ≡ table.entry.rows.now)
-        × (triangle_as (table_in table.entry.rows.now) true (told result) ≡ triangle_as (table_in table.entry.rows.now) (asks_outward track (meant h)) (points_of track (meant h) points.now)) }
-{
-    if h.asks_outward() {
-        return Order::Outward(Placed {
-            table,
-            points,
-            ids: h.ids,
-        });
-    }
-    Order::Rising(table)
 }
 
 // The skin of the marks at the front of the final marks, in the order that word 7 asks for.
@@ -89,7 +78,8 @@ fn list_front(
         rows,
         neighbours: work,
     };
-    let order = order_of(h, table, points);
+    let outward = h.asks_outward();
+    let order = Order::of(table, points, h.ids, outward);
     let n = row_count(rows);
     list_skin(order, &final_marks[..n], triangles)
 }

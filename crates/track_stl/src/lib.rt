@@ -5,15 +5,12 @@ mod corners;
 pub mod unwritten;
 
 ghost use Rattle.std.specs.Prelude.{◌≡◌, true, ◌*◌, ◌≤◌, length};
-ghost use Rattle.std.proofs.Math.Option.{some};
 ghost use mathlib.Core.List.{flatten};
 ghost use Rattle.rules.specs.Points.{point_in};
-ghost use Rattle.rules.specs.Outward.{triangle_as};
 ghost use Rattle.rules.specs.Job.{track, has_points, job_of, written, Lent};
 ghost use Rattle.rules.specs.Stl.{file_length, file_of, corners_of, outward_skin, skin_file, exported, write_skin};
 ghost use Rattle.job.specs.Reading.{meant};
 ghost use Rattle.table.specs.Rows.{rows_in, table_in};
-ghost use Rattle.skin_list.specs.Orders.{rows_of, points_of};
 ghost use Rattle.track.specs.Outcomes.{lent, result_of};
 ghost use Rattle.track_stl.specs.Outcomes.{outcome_of};
 ghost use Rattle.track_stl.specs.Skins.{listed_as};
@@ -29,19 +26,8 @@ use track::refusal::Grown;
 use track::run;
 use unwritten::Unwritten;
 
-// One of the two orders of a table with points: where the header's yes or no becomes an order.
-fn order_in(placed: Placed<'_>, outward: bool) -> Order<'_>
-    ensures { (rows_of result ≡ placed.entry.table.rows.now)
-        × (triangle_as (table_in placed.entry.table.rows.now) true (points_of result) ≡ triangle_as (table_in placed.entry.table.rows.now) outward (some (point_in placed.entry.points.now))) }
-{
-    if outward {
-        return Order::Outward(placed);
-    }
-    Order::Rising(placed.table)
-}
-
 // Lists the skin outward and writes it; then lists it as it was listed, which brings the triangles back. `asked`
-// is the header's yes or no, of which `order_in` makes an order.
+// is the header's yes or no, of which `Order::of` makes an order.
 fn put_listed(placed: Placed, asked: bool, marks: &[u8], triangles: &mut [u32], file: &mut [u8])
     requires { (rows_in placed.table.rows.now ≤ length marks.now) × (6 * rows_in placed.table.rows.now ≤ length triangles.old)
         × (triangles.old ≡ written (flatten (listed_as asked placed.table.rows.now marks.now placed.points.now)) triangles.old)
@@ -51,7 +37,8 @@ fn put_listed(placed: Placed, asked: bool, marks: &[u8], triangles: &mut [u32], 
 {
     let count = list_skin(Order::Outward(placed), marks, triangles);
     put_triangles(placed, triangles, count, file);
-    list_skin(order_in(placed, asked), marks, triangles);
+    let order = Order::of(placed.table, placed.points, placed.ids, asked);
+    list_skin(order, marks, triangles);
 }
 
 // The file of a job that was run and has points. The triangles are left as the run left them.

@@ -2,6 +2,7 @@ use Rattle.std.proofs.Common.{ap, ◌∙◌, true}
 use Rattle.rules.specs.Job.{written}
 use Rattle.table.specs.Tested.{ground_of}
 use Rattle.track_stl.specs.Skins.{listed_as, listed_again, may_put, file_put}
+use Rattle.skin_list.specs.Orders.{order_asked}
 use mathlib.Core.List.{flatten}
 use Rattle.track_stl.proofs.put_listed.Goals as goal
 
@@ -21,8 +22,8 @@ returns c =
     let points = placed.points.now in
     let work = placed.table.neighbours.now in
     let triangles = c.args.triangles.now in
-    let order = c.order_in.ensures in (
-      (rw (order.0, order.1) at c.list_skin.ensures.1) ∙ ap (written (flatten (listed_as c.args.asked rows marks points))) c.list_skin-count.ensures.1
+    let order = c.of-order.ensures in (
+      (rw (order.0, order_asked _ _ _ order.1) at c.list_skin.ensures.1) ∙ ap (written (flatten (listed_as c.args.asked rows marks points))) c.list_skin-count.ensures.1
           ∙ listed_again rows marks points work placed.ids on_ground triangles c.requires.1 c.args.asked true c.requires.2,
       file_put rows marks points work placed.ids on_ground triangles c.requires.1 c.list_skin-count.ensures.0 c.list_skin-count.ensures.1 c.args.file.now c.put_triangles.ensures,
     )

@@ -11,7 +11,7 @@ pub loop-i-smaller : goal.loop-i-smaller
 loop-i-smaller c = omega (arith, c.loop-i-test.true, few_reached (grounded_of c.args.table.tested).1 _ _ _ _ c.loop-i.invariant)
 
 pub returns : goal.returns
-returns c = rows_end (grounded_of c.args.table.tested).1 _ _ _ _ c.loop-i.invariant c.requires.0 c.requires.1 (omega (arith, c.loop-i-test.false))
+returns c = let ends = rows_end (grounded_of c.args.table.tested).1 _ _ _ _ c.loop-i.invariant c.requires.0 c.requires.1 (omega (arith, c.loop-i-test.false)) in (ends.0, ends.3)
 
 pub overflow_add-i : goal.overflow_add-i
 overflow_add-i c = omega (arith, c.loop-i-test.true, few_reached (grounded_of c.args.table.tested).1 _ _ _ _ c.loop-i.invariant)

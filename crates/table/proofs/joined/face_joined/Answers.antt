@@ -1,4 +1,4 @@
-use Rattle.std.proofs.Common.{arith}
+use Rattle.std.proofs.Common.{arith, sym, ◌∙◌}
 use Rattle.rules.specs.Laws.Places.{row_below}
 use Rattle.table.specs.Faces.{kind_small}
 use Rattle.table.specs.Ground.{rising_rows}
@@ -16,4 +16,7 @@ reached_from-reached-requires c =
 
 pub returns : goal.returns
 returns c =
-    (joined_found _ c.requires.0 (rising_rows (grounded_of c.args.table.tested).1) _ c.requires.3 c.face_at-face.ensures _ c.reached_from-reached.ensures.0 c.like_places-found.ensures.0, λ y l. c.reached_from-reached.ensures.1 y l)
+    (joined_found _ c.requires.0 (rising_rows (grounded_of c.args.table.tested).1) _ c.requires.3 c.face_at-face.ensures _ c.reached_from-reached.ensures.0 c.like_onward.ensures, λ y l. c.reached_from-reached.ensures.1 y l)
+
+pub like_onward-requires : goal.like_onward-requires
+like_onward-requires c = ((grounded_of c.args.table.tested).1.few, c.requires.3, c.requires.1, sym c.if-not-first_like.false ∙ c.first_like.ensures)
