@@ -163,7 +163,7 @@ module _ {bytes neighbours : List ℕ} {ids : ℕ} (ground : Ground bytes neighb
       omega (arith, below 0 (lit< tt), below 1 (lit< tt), below 2 (lit< tt), below 3 (lit< tt))
 
   module _ (r c : ℕ) (l : r < rows_in bytes) (m : c < 4) {s : ℕ} (listed : s ≡ get_or neighbours (4 * r + c) 0) where
-    across_fits : (s < rows_in bytes) × (id_sum (table_in bytes) s ≤ 4 * most_ids)
+    pub across_fits : (s < rows_in bytes) × (id_sum (table_in bytes) s ≤ 4 * most_ids)
     across_fits = let below : s < rows_in bytes = rw listed (neighbour_below ground r c l m) in (below, sum_fits s below)
 
     pub far_found : {x y : ℕ} → x ≡ id_sum (table_in bytes) s → y ≡ id_in bytes r c
