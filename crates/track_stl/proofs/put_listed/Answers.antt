@@ -23,7 +23,7 @@ returns c =
     let work = placed.table.neighbours.now in
     let triangles = c.args.triangles.now in
     let order = c.of-order.ensures in (
-      (rw (order.0, order_asked _ _ _ order.1) at c.list_skin.ensures.1) ∙ ap (written (flatten (listed_as c.args.asked rows marks points))) c.list_skin-count.ensures.1
+      (rw (order.0, order_asked _ c.args.asked _ order.1) at c.list_skin.ensures.1) ∙ ap (written (flatten (listed_as c.args.asked rows marks points))) c.list_skin-count.ensures.1
           ∙ listed_again rows marks points work placed.ids on_ground triangles c.requires.1 c.args.asked true c.requires.2,
       file_put rows marks points work placed.ids on_ground triangles c.requires.1 c.list_skin-count.ensures.0 c.list_skin-count.ensures.1 c.args.file.now c.put_triangles.ensures,
     )

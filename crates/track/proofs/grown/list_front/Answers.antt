@@ -14,4 +14,4 @@ pub of-order-requires : goal.of-order-requires
 of-order-requires c = ((tested_of c.requires.0).1, λ asked. c.requires.3 (outward_pointed track (meant c.args.h) (sym c.asks_outward-outward.ensures ∙ asked)))
 
 pub returns : goal.returns
-returns c = front_listed _ _ _ _ _ c.row_count-n.ensures c.asks_outward-outward.ensures (rw (c.of-order.ensures.0, order_asked _ _ _ c.of-order.ensures.1) at c.list_skin.ensures)
+returns c = front_listed _ _ _ _ _ c.row_count-n.ensures c.asks_outward-outward.ensures (rw (c.of-order.ensures.0, order_asked _ c.asks_outward-outward.result _ c.of-order.ensures.1) at c.list_skin.ensures)
