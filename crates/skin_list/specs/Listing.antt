@@ -138,12 +138,13 @@ module _ {bytes : List ℕ} {id_count : ℕ} (paired : Paired (table_in bytes) i
 
 -- ---- outward, where it is asked for
 
--- rising ids are the wrong way
+-- rising ids are the wrong way, of a triangle that is listed
 pub turned_order : {listed turned : Bool} (outward : Bool) (t : Table) (at : ℕ → Point) (r c : ℕ) → turned ≡ (listed && outward && not (right_way t at r c)) → listed ≡ true
     → in_order turned t r c ≡ triangle_as t outward (some at) r c
 unfolding triangle_as
 turned_order outward t at r c e on = rw (e, on)
 
+-- the same by the order that is made of what is asked for
 pub order_turned : {turned : Bool} (order : Order) (r c : ℕ) → turned ≡ is_turned order r c
     → in_order turned (table_in (rows_of order)) r c ≡ triangle_as (table_in (rows_of order)) true (points_of order) r c
 unfolding triangle_as

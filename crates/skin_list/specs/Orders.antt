@@ -15,6 +15,16 @@ abbrev pub rows_of : Order → List ℕ
 rows_of (Rising t) = t.rows.now
 rows_of (Outward p) = p.table.rows.now
 
+-- the words with its neighbour list
+abbrev pub neighbours_of : Order → List ℕ
+neighbours_of (Rising t) = t.neighbours.now
+neighbours_of (Outward p) = p.table.neighbours.now
+
+-- the bytes of its points with V, or none
+abbrev pub lent_of : Order → Option (List ℕ × ℕ)
+lent_of (Rising t) = none
+lent_of (Outward p) = some (p.points.now, p.ids)
+
 -- the points by which a triangle is listed outward, or none
 abbrev pub points_of : Order → Option (ℕ → Point)
 points_of (Rising t) = none

@@ -4,7 +4,7 @@ ghost use Rattle.std.proofs.Math.Option.{some, none};
 ghost use Rattle.rules.specs.Points.{point_in};
 ghost use Rattle.table.specs.Tested.{IdsTested};
 ghost use Rattle.points.specs.Grid.{Grid};
-ghost use Rattle.skin_list.specs.Orders.{rows_of, points_of};
+ghost use Rattle.skin_list.specs.Orders.{rows_of, neighbours_of, points_of, lent_of};
 
 use points::placed::Placed;
 use table::checked::Table;
@@ -20,7 +20,8 @@ impl<'a> Order<'a> {
     // Outward where that is asked for, by the points, of which there is one for each id; else rising, and no point is read.
     pub fn of(table: Table<'a>, points: &'a [u8], ids: usize, outward: bool) -> Order<'a>
         requires { IdsTested table.rows.now ids × (outward ≡ true → Grid points.now ids) }
-        ensures { (rows_of result ≡ table.entry.rows.now) × (points_of result ≡ cond outward (some (point_in points.now)) none) }
+        ensures { (rows_of result ≡ table.entry.rows.now) × (points_of result ≡ cond outward (some (point_in points.now)) none)
+            × (neighbours_of result ≡ table.entry.neighbours.now) × (lent_of result ≡ cond outward (some (points.now, ids)) none) }
     {
         if !outward {
             return Order::Rising(table);

@@ -13,7 +13,6 @@ use Rattle.rules.specs.First.{Test, Verdict, first_match}
 use Rattle.rules.specs.Skin.{skin_as}
 use Rattle.rules.specs.Points.{Point, point_in}
 use Rattle.rules.specs.Outward.{triangle_as}
-use Rattle.rules.specs.Laws.Job.{outward_pointed}
 use Rattle.rules.specs.Proposals.{Proposal, inside_in, answers_to, final_marks, taken}
 use Rattle.rules.specs.Work.{work_area}
 use Rattle.rules.specs.Job as rules

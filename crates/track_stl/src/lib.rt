@@ -10,7 +10,7 @@ ghost use Rattle.rules.specs.Points.{point_in};
 ghost use Rattle.rules.specs.Job.{track, has_points, job_of, written, Lent};
 ghost use Rattle.rules.specs.Stl.{file_length, file_of, corners_of, outward_skin, skin_file, exported, write_skin};
 ghost use Rattle.job.specs.Reading.{meant};
-ghost use Rattle.table.specs.Rows.{rows_in, table_in};
+ghost use Rattle.table.specs.Rows.{rows_in};
 ghost use Rattle.track.specs.Outcomes.{lent, result_of};
 ghost use Rattle.track_stl.specs.Outcomes.{outcome_of};
 ghost use Rattle.track_stl.specs.Skins.{listed_as};
